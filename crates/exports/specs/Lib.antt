@@ -1,0 +1,2 @@
+-- What the numbers of the C interface stand for.
+pub mod Numbers

@@ -1,0 +1,13 @@
+-- The laws under the functions of `num`, and its theorems: SquareRoot, Remainder, TotalOrder.
+pub mod Whole
+mod FloorLaws
+mod CompareLaws
+pub mod RootLaws
+mod RootBits
+mod SqrtLaws
+mod RemLaws
+mod NearLaws
+pub mod Ranks
+pub mod SquareRoot
+pub mod Remainder
+pub mod TotalOrder
