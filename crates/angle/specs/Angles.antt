@@ -2,7 +2,7 @@
 -- `⊕ ⊖ ⊗ ⊘` are the four operations of binary64, one rounding each. Definitions only.
 use mathlib.Core.Bool.{Bool, cond}
 use lib.Ieee.{Float, binary64, neg, lt, le, eq, ofBits}
-use Rattle.num.specs.Ops.{_⊕_, _⊖_, _⊗_, _⊘_}
+use Rattle.num.specs.Ops.{_⊕_, _⊖_, _⊗_, _⊘_, zeroF, oneF}
 use Rattle.num.specs.Root.{sqrtOf}
 
 -- ---- constants, by bit pattern
@@ -54,10 +54,6 @@ abbrev pub kA15 : Float
 kA15 = ofBits binary64 0x3fb1_1111_1111_1111
 abbrev pub kA17 : Float
 kA17 = ofBits binary64 0x3fae_1e1e_1e1e_1e1e
-abbrev pub kZero : Float
-kZero = ofBits binary64 0x0000_0000_0000_0000
-abbrev pub kOne : Float
-kOne = ofBits binary64 0x3ff0_0000_0000_0000
 abbrev pub kMinusOne : Float
 kMinusOne = ofBits binary64 0xbff0_0000_0000_0000
 abbrev pub kFour : Float
@@ -125,9 +121,9 @@ step z c p = c ⊖ p ⊗ z
 
 -- ---- sine and cosine from -pi/4 to pi/4: the series through degree 17 and 16
 unfoldable pub sinNear : Float → Float
-sinNear r = let z = r ⊗ r in r ⊗ (step z kOne (step z kS3 (step z kS5 (step z kS7 (step z kS9 (step z kS11 (step z kS13 (step z kS15 kS17))))))))
+sinNear r = let z = r ⊗ r in r ⊗ (step z oneF (step z kS3 (step z kS5 (step z kS7 (step z kS9 (step z kS11 (step z kS13 (step z kS15 kS17))))))))
 unfoldable pub cosNear : Float → Float
-cosNear r = let z = r ⊗ r in step z kOne (step z kC2 (step z kC4 (step z kC6 (step z kC8 (step z kC10 (step z kC12 (step z kC14 kC16)))))))
+cosNear r = let z = r ⊗ r in step z oneF (step z kC2 (step z kC4 (step z kC6 (step z kC8 (step z kC10 (step z kC12 (step z kC14 kC16)))))))
 
 -- ---- the nearest count of quarter turns, what is left, and the count modulo 4 as -2, -1, 0, 1 or 2
 abbrev pub whole : Float → Float
@@ -141,7 +137,7 @@ quadrant k = k ⊖ kFour ⊗ whole (k ⊗ kQuarter)
 
 -- the one of four by the quadrant
 unfoldable pub pick : Float → Float → Float → Float → Float → Float
-pick q a b c d = cond (eq q kZero) a (cond (eq q kOne) b (cond (eq q kMinusOne) c d))
+pick q a b c d = cond (eq q zeroF) a (cond (eq q oneF) b (cond (eq q kMinusOne) c d))
 
 unfoldable pub sinFar : Float → Float
 sinFar x = let k = turns x in let r = left x k in pick (quadrant k) (sinNear r) (cosNear r) (neg (cosNear r)) (neg (sinNear r))
@@ -180,28 +176,28 @@ ratio n d =
   (cond (lt n (kThree8 ⊗ d)) (arc kAt14 kAt14Lo (shift kQuarter n d))
   (cond (lt n (kFive8 ⊗ d)) (arc kAt12 kAt12Lo (shift kHalf n d))
   (cond (lt n (kSeven8 ⊗ d)) (arc kAt34 kAt34Lo (shift kThree4 n d))
-  (arc kPi4 kPi4Lo (shift kOne n d)))))
+  (arc kPi4 kPi4Lo (shift oneF n d)))))
 
 -- ---- the angle of (x, y)
 unfoldable pub flat : Float → Float → Float
-flat r x = cond (lt x kZero) (kPi ⊖ (r ⊖ kPiLo)) r
+flat r x = cond (lt x zeroF) (kPi ⊖ (r ⊖ kPiLo)) r
 unfoldable pub steep : Float → Float → Float
-steep r x = cond (lt x kZero) (kPi2 ⊕ (r ⊕ kPi2Lo)) (kPi2 ⊖ (r ⊖ kPi2Lo))
+steep r x = cond (lt x zeroF) (kPi2 ⊕ (r ⊕ kPi2Lo)) (kPi2 ⊖ (r ⊖ kPi2Lo))
 unfoldable pub halfTurn : Float → Float → Float → Float
 halfTurn b a x = cond (le b a) (flat (ratio b a) x) (steep (ratio a b) x)
 unfoldable pub sizeOf : Float → Float
-sizeOf x = cond (lt x kZero) (neg x) x
+sizeOf x = cond (lt x zeroF) (neg x) x
 unfoldable pub scaled : Float → Float → Float → Float
 scaled a y x = cond (lt a kTiny) (cond (lt y kTiny) (halfTurn (y ⊗ kHuge) (a ⊗ kHuge) x) (halfTurn y a x)) (halfTurn y a x)
 unfoldable pub upper : Float → Float → Float
 upper y x = scaled (sizeOf x) y x
 -- x is below zero, or minus zero
 unfoldable pub leftward : Float → Bool
-leftward x = cond (eq x kZero) (lt (kOne ⊘ x) kZero) (lt x kZero)
+leftward x = cond (eq x zeroF) (lt (oneF ⊘ x) zeroF) (lt x zeroF)
 unfoldable pub onAxis : Float → Float → Float
-onAxis y x = cond (leftward x) (cond (lt (kOne ⊘ y) kZero) kMinusPi kPi) y
+onAxis y x = cond (leftward x) (cond (lt (oneF ⊘ y) zeroF) kMinusPi kPi) y
 unfoldable pub atan2Of : Float → Float → Float
-atan2Of y x = cond (eq y kZero) (onAxis y x) (cond (lt y kZero) (neg (upper (neg y) x)) (upper y x))
+atan2Of y x = cond (eq y zeroF) (onAxis y x) (cond (lt y zeroF) (neg (upper (neg y) x)) (upper y x))
 
 unfoldable pub acosOf : Float → Float
-acosOf x = atan2Of (sqrtOf ((kOne ⊖ x) ⊗ (kOne ⊕ x))) x
+acosOf x = atan2Of (sqrtOf ((oneF ⊖ x) ⊗ (oneF ⊕ x))) x

@@ -7,6 +7,7 @@ ghost use Rattle.num.specs.Num.{floorOf, ceilOf, absOf, minOf, maxOf, clampOf, 
 ghost use Rattle.num.specs.Order.{orderOf};
 ghost use Rattle.num.specs.Root.{sqrtOf};
 ghost use Rattle.angle.specs.Angles.{sinOf, cosOf, atan2Of, acosOf};
+ghost use Rattle.rng.specs.Rng.{newOf, nextU64Of, nextF64Of, rangeOf};
 ghost use Rattle.exports.specs.Numbers.{bit, place};
 
 // ---- num
@@ -140,4 +141,36 @@ pub extern "C" fn bf_acos(x: f64) -> f64
     ensures { λ r. ⌜ r ≡ acosOf x ⌝ }
 {
     angle::acos(x)
+}
+
+// ---- rng: the state goes in as a number, and the state after the draw is left in `next`
+
+#[no_mangle]
+pub extern "C" fn bf_rng_next_u64(state: u64, next: &mut u64) -> u64
+    ensures { λ r. ⌜ (r ≡ nextU64Of (newOf state) .value) × (now (next .exit) ≡ nextU64Of (newOf state) .rng .0) ⌝ }
+{
+    let d = rng::Rng::new(state).next_u64();
+    let g = d.rng;
+    *next = g.0;
+    d.value
+}
+
+#[no_mangle]
+pub extern "C" fn bf_rng_next_f64(state: u64, next: &mut u64) -> f64
+    ensures { λ r. ⌜ (r ≡ nextF64Of (newOf state) .value) × (now (next .exit) ≡ nextF64Of (newOf state) .rng .0) ⌝ }
+{
+    let d = rng::Rng::new(state).next_f64();
+    let g = d.rng;
+    *next = g.0;
+    d.value
+}
+
+#[no_mangle]
+pub extern "C" fn bf_rng_range(state: u64, lo: u64, hi: u64, next: &mut u64) -> u64
+    ensures { λ r. ⌜ (r ≡ rangeOf (newOf state) lo hi .value) × (now (next .exit) ≡ rangeOf (newOf state) lo hi .rng .0) ⌝ }
+{
+    let d = rng::Rng::new(state).range(lo, hi);
+    let g = d.rng;
+    *next = g.0;
+    d.value
 }

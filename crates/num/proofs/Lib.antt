@@ -7,6 +7,7 @@ mod RootBits
 mod SqrtLaws
 mod RemLaws
 mod NearLaws
+mod BitLaws
 pub mod Ranks
 pub mod SquareRoot
 pub mod Remainder

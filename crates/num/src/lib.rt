@@ -2,7 +2,7 @@
 // Meanings: specs/Num.antt (floor to remainder), specs/Order.antt (total order), specs/Root.antt (square root).
 // IEEE 754-2019 decides floor, ceiling, total order and root; the pages of Rust's library decide the rest.
 ghost use mathlib.Core.Path.{_≡_};
-ghost use lib.Ieee.{binary64, isNan, toUnsigned, toSigned, toBits};
+ghost use lib.Ieee.{binary64, isNan, toUnsigned, toSigned, toBits, ofBits};
 ghost use Rattle.num.specs.Num.{floorOf, ceilOf, absOf, minOf, maxOf, clampOf, remEuclidOf};
 ghost use Rattle.num.specs.Order.{isMinusZero, orderOf};
 ghost use Rattle.num.specs.Root.{RootOf, rootAt, sqrtOf};
@@ -184,6 +184,26 @@ pub fn rem_euclid(x: f64, y: f64) -> f64
         return r + abs(y);
     }
     r
+}
+
+// `f64::to_bits`. Every NaN has the one pattern 0x7ff8_0000_0000_0000.
+pub fn to_bits(x: f64) -> u64
+    ensures { λ r. ⌜ r ≡ toBits binary64 x ⌝ }
+{
+    if is_nan(x) {
+        return 0x7ff8_0000_0000_0000;
+    }
+    f64::to_bits(x)
+}
+
+// `f64::from_bits`.
+pub fn from_bits(b: u64) -> f64
+    ensures { λ r. ⌜ r ≡ ofBits binary64 b ⌝ }
+{
+    if 0x7ff0_0000_0000_0000 < b % 0x8000_0000_0000_0000 {
+        return 0.0 / 0.0;
+    }
+    f64::from_bits(b)
 }
 
 // The root of m, cut to a whole number. The floats only guess it: nothing rests on them.

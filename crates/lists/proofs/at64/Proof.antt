@@ -1,0 +1,24 @@
+-- `lists::at64` meets its contract.
+-- Assumes nothing.
+use mathlib.Core.Path.{sym, _∙_}
+use lib.ListN.{List·getD-eq-default}
+use borrow.Author.Needs.{needs}
+use lib.Ieee.{nan}
+use Rattle.lists.proofs.Stores.{no-float}
+use Rattle.lists.proofs.at64.Statement.{statement}
+use Rattle.lists.proofs.at64.Tie as tie
+
+mul-result : tie.Need-mul-result
+mul-result c = search needs
+
+shared-slice-read-result : tie.Need-shared-slice-read-result
+shared-slice-read-result c = search needs
+
+returns : tie.Need-returns
+returns c = search needs
+
+returns-2 : tie.Need-returns-2
+returns-2 c = no-float ∙ sym (List·getD-eq-default (c .before .args .s .now) nan (c .if1 .left))
+
+pub at64-spec : {M : Type 1} → statement M
+at64-spec = tie.close (tie.spec mul-result shared-slice-read-result returns returns-2)

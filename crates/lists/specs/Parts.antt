@@ -1,0 +1,20 @@
+-- Lists that stand in lent slices: a part, a list that stands at a place, and a list with a tail of zeros.
+-- Document 01: "the rest of each output list is zero and work room is zero"; "a part from first to first plus len".
+-- Assumes nothing.
+use mathlib.Core.Path.{_≡_}
+use mathlib.Core.List.{List, _++_}
+use Prim.Native.Nat.{ℕ, _-_}
+use lib.ListN.{length, take, drop, replicate}
+
+module _ {A : Type 0} where
+  -- the part of l from a up to e, e out, as `&l[a..e]` lends it. `&l[a..]` lends `part a (length l) l`
+  abbrev pub part : ℕ → ℕ → List A → List A
+  part a e l = take (e - a) (drop a l)
+
+  -- xs stands in l from a on
+  abbrev pub Has : List A → ℕ → List A → Type 0
+  Has l a xs = take (length xs) (drop a l) ≡ xs
+
+  -- l, and z after it up to the length n
+  abbrev pub padded : A → ℕ → List A → List A
+  padded z n l = l ++ replicate (n - length l) z

@@ -1,0 +1,117 @@
+// Words of hexadecimal digits, line by line, from standard input.
+use libc::STDIN_FILENO;
+
+// What is left of the chunk that was read last: from at up to len.
+pub struct Place {
+    pub at: usize,
+    pub len: usize,
+}
+
+pub fn start() -> Place {
+    Place { at: 0, len: 0 }
+}
+
+// A byte, or 256 at the end of the input.
+struct Byte {
+    pub value: u32,
+    pub place: Place,
+}
+
+fn wide(b: u8) -> u32 {
+    b as u32
+}
+
+fn next_byte(chunk: &mut [u8], place: Place) -> Byte {
+    let at = place.at;
+    let len = place.len;
+    if at < len {
+        if at < chunk.len() {
+            return Byte {
+                value: wide(chunk[at]),
+                place: Place { at: at + 1, len },
+            };
+        }
+    }
+    let got = libc::read(STDIN_FILENO, chunk);
+    let n = io::count(got, chunk);
+    if 0 < n {
+        if 0 < chunk.len() {
+            return Byte {
+                value: wide(chunk[0]),
+                place: Place { at: 1, len: n },
+            };
+        }
+    }
+    Byte {
+        value: 256,
+        place: Place { at: 0, len: 0 },
+    }
+}
+
+// The value of a hexadecimal digit, 16 for any other byte.
+fn digit(b: u32) -> u64 {
+    if 48 <= b {
+        if b < 58 {
+            return (b - 48) as u64;
+        }
+        if 97 <= b {
+            if b < 103 {
+                return (b - 87) as u64;
+            }
+        }
+    }
+    16
+}
+
+// w with one more digit at its end.
+fn longer(w: u64, d: u64) -> u64 {
+    w % 0x1000_0000_0000_0000 * 16 + d % 16
+}
+
+// w after the first n words; how many there are then. A full list stays as it is.
+fn push(out: &mut [u64], n: usize, w: u64) -> usize {
+    if n < out.len() {
+        out[n] = w;
+        return n + 1;
+    }
+    n
+}
+
+// A line: how many words it has, whether the input ended before it did, and where the next one starts.
+pub struct Line {
+    pub words: usize,
+    pub end: bool,
+    pub place: Place,
+}
+
+pub fn read_line(chunk: &mut [u8], from: Place, out: &mut [u64]) -> Line {
+    let mut place = from;
+    let mut n: usize = 0;
+    let mut w: u64 = 0;
+    let mut left: u32 = 1000000;
+    while 0 < left {
+        left -= 1;
+        let b = next_byte(chunk, place);
+        place = b.place;
+        let v = b.value;
+        let d = digit(v);
+        if d < 16 {
+            w = longer(w, d);
+        } else {
+            n = push(out, n, w);
+            w = 0;
+            if v != 32 {
+                return Line {
+                    words: n,
+                    end: v != 10,
+                    place,
+                };
+            }
+        }
+    }
+    Line {
+        words: 0,
+        end: true,
+        place,
+    }
+}

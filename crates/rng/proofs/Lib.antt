@@ -1,0 +1,3 @@
+-- The laws that the proofs of `rng` cite.
+mod Halves
+mod Ways

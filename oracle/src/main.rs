@@ -1,0 +1,147 @@
+//! Compares the proved functions with the Rust's, and times both.
+//!
+//!     compare [module..]   every module, or those named; exit status 1 if a comparison fails
+//!     bench [module..]     times, which decide nothing
+//!
+//! A further crate is compared by a module of its own here, with an entry in a list below.
+
+mod angle;
+mod num;
+#[cfg(published)]
+mod published;
+#[cfg(published)]
+mod rng;
+mod util;
+
+use std::ffi::{CStr, c_char};
+use std::process::ExitCode;
+use util::table::count;
+use util::timing::{Bench, INPUTS};
+
+struct Module {
+    name: &'static str,
+    /// Prints its tables and says whether all comparisons passed.
+    compare: fn() -> bool,
+    /// Adds its rows.
+    bench: fn(&mut Bench),
+}
+
+/// Held against Rust's own library.
+const WITH_STD: &[Module] = &[
+    Module {
+        name: "num",
+        compare: num::compare,
+        bench: num::bench,
+    },
+    Module {
+        name: "angle",
+        compare: angle::compare,
+        bench: angle::bench,
+    },
+];
+
+/// Held against the published Rust, where it is at hand.
+#[cfg(published)]
+const WITH_PUBLISHED: &[Module] = &[
+    Module {
+        name: "rng",
+        compare: rng::compare,
+        bench: rng::bench,
+    },
+    Module {
+        name: "published",
+        compare: published::compare,
+        bench: |_| (),
+    },
+];
+#[cfg(not(published))]
+const WITH_PUBLISHED: &[Module] = &[];
+
+const USAGE: &str = "usage: compare|bench [module..]";
+
+fn main() -> ExitCode {
+    let words: Vec<String> = std::env::args().skip(1).collect();
+    let Some((command, names)) = words.split_first() else {
+        return refuse(USAGE);
+    };
+    let all: Vec<&Module> = WITH_STD.iter().chain(WITH_PUBLISHED).collect();
+    if let Some(name) = names.iter().find(|n| all.iter().all(|m| m.name != **n)) {
+        return refuse(&format!("no module {name} here\n{USAGE}"));
+    }
+    let chosen = |m: &&Module| names.is_empty() || names.iter().any(|n| n == m.name);
+    let modules: Vec<&Module> = all.into_iter().filter(chosen).collect();
+    match command.as_str() {
+        "compare" => {
+            let part = names.is_empty() && WITH_PUBLISHED.is_empty();
+            compare(&modules, part)
+        }
+        "bench" => bench(&modules),
+        _ => refuse(USAGE),
+    }
+}
+
+fn refuse(why: &str) -> ExitCode {
+    eprintln!("{why}");
+    ExitCode::from(2)
+}
+
+/// Fails also where all was asked for and only a part could be built.
+fn compare(modules: &[&Module], part: bool) -> ExitCode {
+    let mut failed = Vec::new();
+    println!("Compared with {}.\n", other_side());
+    for module in modules {
+        println!("## {}\n", module.name);
+        if !(module.compare)() {
+            failed.push(module.name);
+        }
+    }
+    if !failed.is_empty() {
+        println!("FAILED: {}", failed.join(", "));
+        return ExitCode::FAILURE;
+    }
+    if part {
+        println!("NOT COMPARED: all that needs the published Rust, which was not at hand");
+        return ExitCode::FAILURE;
+    }
+    println!("All comparisons passed.");
+    ExitCode::SUCCESS
+}
+
+fn bench(modules: &[&Module]) -> ExitCode {
+    let calls = count(INPUTS as u64);
+    println!("Timed beside {}, {}.", other_side(), processor());
+    println!("Nanoseconds per call, best of many runs of {calls} calls.");
+    println!(
+        "Throughput: calls that do not wait for each other. Latency: each waits for the last."
+    );
+    println!(
+        "Ours is called through the C interface and not inlined. Rust's stands behind one such"
+    );
+    println!(
+        "call too, but for the rows that say that it is inlined. A limit is for either ratio.\n"
+    );
+    let mut table = Bench::new();
+    for module in modules {
+        (module.bench)(&mut table);
+    }
+    table.print();
+    ExitCode::SUCCESS
+}
+
+/// The compiler, and the C library that Rust takes its angle functions from.
+fn other_side() -> String {
+    unsafe extern "C" {
+        safe fn gnu_get_libc_version() -> *const c_char;
+    }
+    // SAFETY: glibc hands back a constant string.
+    let libc = unsafe { CStr::from_ptr(gnu_get_libc_version()) };
+    let (rustc, arch) = (env!("ORACLE_RUSTC"), std::env::consts::ARCH);
+    format!("{rustc} with glibc {} on {arch}", libc.to_string_lossy())
+}
+
+fn processor() -> String {
+    let info = std::fs::read_to_string("/proc/cpuinfo").unwrap_or_default();
+    let line = info.lines().find(|l| l.starts_with("model name"));
+    let name = line.and_then(|l| l.split_once(": ")).map(|(_, name)| name);
+    name.unwrap_or("processor not named").to_string()
+}

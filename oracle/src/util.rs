@@ -1,0 +1,9 @@
+//! What every comparison shares.
+
+pub mod bits;
+pub mod floats;
+pub mod gap;
+pub mod rng;
+pub mod table;
+pub mod tally;
+pub mod timing;

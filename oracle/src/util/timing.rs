@@ -1,0 +1,141 @@
+//! Timing of single calls: throughput (calls that do not wait for each other) and latency (each
+//! call's argument hangs on the answer before it). One driver runs both sides on the same inputs.
+
+use super::table::Table;
+use std::hint::black_box;
+use std::time::Instant;
+
+/// Runs of each side. The best one counts: other work on the machine only ever adds time.
+const RUNS: usize = 101;
+
+/// Inputs per run: too many for the branch predictor to learn by heart.
+pub const INPUTS: usize = 1 << 16;
+
+pub type Pair = (f64, f64);
+
+fn throughput(inputs: &[Pair], call: &impl Fn(f64, f64) -> u64) -> u64 {
+    inputs.iter().fold(0, |all, &(x, y)| all ^ call(x, y))
+}
+
+fn latency(inputs: &[Pair], call: &impl Fn(f64, f64) -> u64) -> u64 {
+    // The compiler does not know that this is 0, so it must wait for the last answer.
+    let zero = black_box(0);
+    inputs.iter().fold(0, |last, &(x, y)| {
+        call(f64::from_bits(x.to_bits() ^ (last & zero)), y)
+    })
+}
+
+fn nanoseconds(inputs: &[Pair], run: impl FnOnce() -> u64) -> f64 {
+    let start = Instant::now();
+    black_box(run());
+    start.elapsed().as_secs_f64() * 1e9 / inputs.len() as f64
+}
+
+/// Best times in nanoseconds per call.
+#[derive(Clone, Copy)]
+struct Best {
+    throughput: f64,
+    latency: f64,
+}
+
+impl Best {
+    const NONE: Self = Self {
+        throughput: f64::INFINITY,
+        latency: f64::INFINITY,
+    };
+
+    fn run(&mut self, inputs: &[Pair], call: &impl Fn(f64, f64) -> u64) {
+        let inputs = black_box(inputs);
+        let t = nanoseconds(inputs, || throughput(inputs, call));
+        let l = nanoseconds(inputs, || latency(inputs, call));
+        self.throughput = self.throughput.min(t);
+        self.latency = self.latency.min(l);
+    }
+}
+
+/// A table of timings.
+pub struct Bench(Table);
+
+impl Bench {
+    pub fn new() -> Self {
+        Self(Table::new(&[
+            "call",
+            "throughput: ours",
+            "Rust",
+            "ratio",
+            "latency: ours",
+            "Rust",
+            "ratio",
+            "limit",
+            "verdict",
+        ]))
+    }
+
+    /// Times one function. The two sides take turns, so that both see the same machine.
+    pub fn add(
+        &mut self,
+        what: &str,
+        limit: Limit,
+        inputs: &[Pair],
+        ours: impl Fn(f64, f64) -> u64,
+        rust: impl Fn(f64, f64) -> u64,
+    ) {
+        let (mut a, mut b) = (Best::NONE, Best::NONE);
+        for _ in 0..RUNS {
+            a.run(inputs, &ours);
+            b.run(inputs, &rust);
+        }
+        let ratios = (a.throughput / b.throughput, a.latency / b.latency);
+        self.0.row(vec![
+            what.to_string(),
+            format!("{:.2}", a.throughput),
+            format!("{:.2}", b.throughput),
+            format!("{:.2}", ratios.0),
+            format!("{:.2}", a.latency),
+            format!("{:.2}", b.latency),
+            format!("{:.2}", ratios.1),
+            limit.show(),
+            limit.verdict(ratios),
+        ]);
+    }
+
+    pub fn print(&self) {
+        self.0.print();
+    }
+}
+
+/// How many times the Rust's time ours may take. It is no test: a busy machine may go over.
+#[derive(Clone, Copy)]
+pub enum Limit {
+    None,
+    Times(f64),
+}
+
+impl Limit {
+    fn show(self) -> String {
+        match self {
+            Self::None => "-".to_string(),
+            Self::Times(t) => t.to_string(),
+        }
+    }
+
+    /// For throughput, then for latency.
+    fn verdict(self, ratios: (f64, f64)) -> String {
+        let Self::Times(t) = self else {
+            return "-".to_string();
+        };
+        let word = |ratio| if ratio <= t { "PASS" } else { "OVER" };
+        format!("{}, {}", word(ratios.0), word(ratios.1))
+    }
+}
+
+/// One call of a function that the compiler does not know, so that it inlines neither side.
+pub fn one(f: extern "C" fn(f64) -> f64) -> impl Fn(f64, f64) -> u64 {
+    let f = black_box(f);
+    move |x, _| f(x).to_bits()
+}
+
+pub fn two(f: extern "C" fn(f64, f64) -> f64) -> impl Fn(f64, f64) -> u64 {
+    let f = black_box(f);
+    move |x, y| f(x, y).to_bits()
+}
