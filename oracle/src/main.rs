@@ -2,15 +2,20 @@
 //!
 //!     compare [module..]   every module, or those named; exit status 1 if a comparison fails
 //!     bench [module..]     times, which decide nothing
+//!     sample FILE          writes the sample for crate `replay`, and reads it back
 //!
 //! A further crate is compared by a module of its own here, with an entry in a list below.
 
 mod angle;
+#[cfg(published)]
+mod geom;
 mod num;
 #[cfg(published)]
 mod published;
 #[cfg(published)]
 mod rng;
+#[cfg(published)]
+mod sample;
 mod util;
 
 use std::ffi::{CStr, c_char};
@@ -49,6 +54,11 @@ const WITH_PUBLISHED: &[Module] = &[
         bench: rng::bench,
     },
     Module {
+        name: "geom",
+        compare: geom::compare,
+        bench: geom::bench,
+    },
+    Module {
         name: "published",
         compare: published::compare,
         bench: |_| (),
@@ -57,13 +67,16 @@ const WITH_PUBLISHED: &[Module] = &[
 #[cfg(not(published))]
 const WITH_PUBLISHED: &[Module] = &[];
 
-const USAGE: &str = "usage: compare|bench [module..]";
+const USAGE: &str = "usage: compare|bench [module..], or sample FILE";
 
 fn main() -> ExitCode {
     let words: Vec<String> = std::env::args().skip(1).collect();
     let Some((command, names)) = words.split_first() else {
         return refuse(USAGE);
     };
+    if command == "sample" {
+        return sample(names);
+    }
     let all: Vec<&Module> = WITH_STD.iter().chain(WITH_PUBLISHED).collect();
     if let Some(name) = names.iter().find(|n| all.iter().all(|m| m.name != **n)) {
         return refuse(&format!("no module {name} here\n{USAGE}"));
@@ -105,6 +118,26 @@ fn compare(modules: &[&Module], part: bool) -> ExitCode {
     }
     println!("All comparisons passed.");
     ExitCode::SUCCESS
+}
+
+#[cfg(published)]
+fn sample(words: &[String]) -> ExitCode {
+    let [path] = words else {
+        return refuse(USAGE);
+    };
+    match sample::write(path) {
+        Ok(true) => ExitCode::SUCCESS,
+        Ok(false) => ExitCode::FAILURE,
+        Err(why) => {
+            eprintln!("sample: {why}");
+            ExitCode::FAILURE
+        }
+    }
+}
+#[cfg(not(published))]
+fn sample(_: &[String]) -> ExitCode {
+    eprintln!("sample: the published Rust was not at hand");
+    ExitCode::FAILURE
 }
 
 fn bench(modules: &[&Module]) -> ExitCode {

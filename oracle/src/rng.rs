@@ -178,17 +178,17 @@ extern "C" fn rust_range(state: u64, lo: u64, hi: u64, next: &mut u64) -> u64 {
 }
 
 /// The state comes as a float's bits, since that is what the driver hands out.
-fn drawing(f: extern "C" fn(u64, &mut u64) -> u64) -> impl Fn(f64, f64) -> u64 {
+fn drawing(f: extern "C" fn(u64, &mut u64) -> u64) -> impl Fn(Pair) -> u64 {
     let f = black_box(f);
-    move |x, _| {
+    move |(x, _)| {
         let (value, next) = ours(|next| f(x.to_bits(), next));
         value ^ next
     }
 }
 
-fn drawing_from(f: extern "C" fn(u64, u64, u64, &mut u64) -> u64) -> impl Fn(f64, f64) -> u64 {
+fn drawing_from(f: extern "C" fn(u64, u64, u64, &mut u64) -> u64) -> impl Fn(Pair) -> u64 {
     let f = black_box(f);
-    move |x, _| {
+    move |(x, _)| {
         let (value, next) = ours(|next| f(x.to_bits(), 5, 60, next));
         value ^ next
     }

@@ -1,6 +1,8 @@
 //! What every comparison shares.
 
 pub mod bits;
+#[cfg(published)]
+pub mod call;
 pub mod floats;
 pub mod gap;
 pub mod rng;

@@ -6,60 +6,115 @@ ghost use lib.Ieee.{neg};
 ghost use Rattle.angle.specs.Angles.{sinNear, cosNear, turns, left, quadrant, pick, sinFar, cosFar, sinOf, cosOf, tail, shift, arc, small, ratio, flat, steep, halfTurn, sizeOf, scaled, upper, leftward, onAxis, atan2Of, acosOf};
 
 const K_S3: f64 = 0.16666666666666666;
+
 const K_S5: f64 = 0.008333333333333333;
+
 const K_S7: f64 = 0.0001984126984126984;
+
 const K_S9: f64 = 2.7557319223985893e-06;
+
 const K_S11: f64 = 2.505210838544172e-08;
+
 const K_S13: f64 = 1.6059043836821613e-10;
+
 const K_S15: f64 = 7.647163731819816e-13;
+
 const K_S17: f64 = 2.8114572543455206e-15;
+
 const K_C2: f64 = 0.5;
+
 const K_C4: f64 = 0.041666666666666664;
+
 const K_C6: f64 = 0.001388888888888889;
+
 const K_C8: f64 = 2.48015873015873e-05;
+
 const K_C10: f64 = 2.755731922398589e-07;
+
 const K_C12: f64 = 2.08767569878681e-09;
+
 const K_C14: f64 = 1.1470745597729725e-11;
+
 const K_C16: f64 = 4.779477332387385e-14;
+
 const K_A3: f64 = 0.3333333333333333;
+
 const K_A5: f64 = 0.2;
+
 const K_A7: f64 = 0.14285714285714285;
+
 const K_A9: f64 = 0.1111111111111111;
+
 const K_A11: f64 = 0.09090909090909091;
+
 const K_A13: f64 = 0.07692307692307693;
+
 const K_A15: f64 = 0.06666666666666667;
+
 const K_A17: f64 = 0.058823529411764705;
+
 const K_ZERO: f64 = 0.0;
+
 const K_ONE: f64 = 1.0;
+
 const K_MINUS_ONE: f64 = -1.0;
+
 const K_FOUR: f64 = 4.0;
+
 const K_EIGHTH: f64 = 0.125;
+
 const K_QUARTER: f64 = 0.25;
+
 const K_THREE8: f64 = 0.375;
+
 const K_HALF: f64 = 0.5;
+
 const K_FIVE8: f64 = 0.625;
+
 const K_THREE4: f64 = 0.75;
+
 const K_SEVEN8: f64 = 0.875;
+
 const K_MAGIC: f64 = 6755399441055744.0;
+
 const K_TWO_OVER_PI: f64 = 0.6366197723675814;
+
 const K_MINUS_PI4: f64 = -0.7853981633974483;
+
 const K_PI4: f64 = 0.7853981633974483;
+
 const K_PI4_LO: f64 = 3.061616997868383e-17;
+
 const K_PI2: f64 = 1.5707963267948966;
+
 const K_PI2_LO: f64 = 6.123233995736766e-17;
+
 const K_PI: f64 = 3.141592653589793;
+
 const K_PI_LO: f64 = 1.2246467991473532e-16;
+
 const K_MINUS_PI: f64 = -3.141592653589793;
+
 const K_CUT1: f64 = 1.5707963267948912;
+
 const K_CUT2: f64 = 5.390302858158031e-15;
+
 const K_CUT3: f64 = 8.843720566135701e-29;
+
 const K_AT14: f64 = 0.24497866312686414;
+
 const K_AT14_LO: f64 = 1.0698755618734451e-17;
+
 const K_AT12: f64 = 0.4636476090008061;
+
 const K_AT12_LO: f64 = 2.2698777452961687e-17;
+
 const K_AT34: f64 = 0.6435011087932844;
+
 const K_AT34_LO: f64 = 1.5834785051444286e-17;
+
 const K_TINY: f64 = 3.054936363499605e-151;
+
 const K_HUGE: f64 = 3.273390607896142e+150;
 
 // The series through degree 17, for r from -pi/4 to pi/4. Every p stays positive.

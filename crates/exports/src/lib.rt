@@ -1,6 +1,9 @@
 // The C interface: numbers and slices only, each function one call of the library under it and with its promise.
 // The oracle (oracle/) calls these, so that it compares and times what users would link.
 // An answer that is an enum or a bool becomes a number, by a definition of specs/Numbers.antt.
+mod numbers;
+pub mod plane;
+
 ghost use mathlib.Core.Path.{_≡_};
 ghost use lib.Ieee.{isNan, toUnsigned, toSigned};
 ghost use Rattle.num.specs.Num.{floorOf, ceilOf, absOf, minOf, maxOf, clampOf, remEuclidOf};
@@ -37,10 +40,7 @@ pub extern "C" fn bf_abs(x: f64) -> f64
 pub extern "C" fn bf_is_nan(x: f64) -> u32
     ensures { λ r. ⌜ r ≡ bit (isNan x) ⌝ }
 {
-    if num::is_nan(x) {
-        return 1;
-    }
-    0
+    numbers::bit(num::is_nan(x))
 }
 
 #[no_mangle]

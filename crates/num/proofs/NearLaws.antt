@@ -257,6 +257,7 @@ value-at n h a b c =
   where
     enough : (p : ℕ) → p ≤ 53 → 55 ≤ (h + 1020 - p) / 2
     enough p l = omega arith
+
     capped : (p : ℕ) → p ≤ 53 → (h + 1020 - p) / 2 ≤ 2000
     capped p l = omega arith
 
@@ -283,12 +284,16 @@ sqrt-is-ieee m e f = go (b / 4503599627370496) (b % 4503599627370496) (mod-lt b 
   where
     b : ℕ
     b = toBits binary64 (fin false (suc m) e)
+
     less : (t : ℕ) → t < 4503599627370496 → t < 9007199254740992
     less t h = omega arith
+
     less' : (t : ℕ) → t < 4503599627370496 → t + 4503599627370496 < 9007199254740992
     less' t h = omega arith
+
     up' : (g : ℕ) → g ≤ 2045 → g ≤ 2046
     up' g h = omega arith
+
     go : (x t : ℕ) → t < 4503599627370496 → Read (fin false (suc m) e) x t → Rooted m e
     go zero t l r = all-of m e t 0 (less t l) zero-le r
     go (suc g) t l r = all-of m e (t + 4503599627370496) g (less' t l) (up' g (r .1)) (r .0)

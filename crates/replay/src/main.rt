@@ -2,8 +2,10 @@
 // A line is words of hexadecimal digits with a space between: the function's number (numbers.rt), its arguments, its results.
 // A float is its bit pattern, a result after adding 0.0 so that the sign of a zero does not count, every NaN as one.
 // `oracle/run sample` writes the input. The program prints how many lines it read, over how many functions, and how many differ.
+mod answer;
 mod call;
 mod input;
+mod plane;
 mod words;
 
 use libc::STDOUT_FILENO;
@@ -55,9 +57,9 @@ fn report(t: Tally) {
 
 // Line by line. The budget is far above any sample, so that the loop ends whatever is read.
 fn main() {
-    let mut chunk = [0u8; 65536];
-    let mut words = [0u64; 8192];
-    let mut results = [0u64; 4096];
+    let mut chunk = [0u8; 16384];
+    let mut words = [0u64; 1024];
+    let mut results = [0u64; 256];
     let mut place = input::start();
     let mut t = Tally {
         lines: 0,

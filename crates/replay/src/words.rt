@@ -18,11 +18,6 @@ pub fn put(s: &mut [u64], i: usize, w: u64) {
     }
 }
 
-// A float's pattern as the sample has it.
-pub fn put_float(s: &mut [u64], i: usize, x: f64) {
-    put(s, i, num::to_bits(x + 0.0));
-}
-
 // The last r of the n words are the r results.
 pub fn same_tail(words: &[u64], n: usize, results: &[u64], r: usize) -> bool {
     if n < r {

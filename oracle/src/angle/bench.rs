@@ -2,7 +2,7 @@
 
 use crate::util::floats::some;
 use crate::util::rng::SplitMix64;
-use crate::util::timing::{Bench, INPUTS, Limit, one, two};
+use crate::util::timing::{Bench, INPUTS, Limit, Pair, one, two};
 use std::f64::consts::TAU;
 use std::hint::black_box;
 
@@ -18,9 +18,9 @@ extern "C" fn rust_acos(x: f64) -> f64 {
 }
 
 /// Sine and cosine together: the next call waits for both.
-fn both(f: extern "C" fn(f64, &mut f64, &mut f64)) -> impl Fn(f64, f64) -> u64 {
+fn both(f: extern "C" fn(f64, &mut f64, &mut f64)) -> impl Fn(Pair) -> u64 {
     let f = black_box(f);
-    move |x, _| {
+    move |(x, _)| {
         let (mut sin, mut cos) = (0.0, 0.0);
         f(x, &mut sin, &mut cos);
         sin.to_bits() ^ cos.to_bits()

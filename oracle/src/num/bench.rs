@@ -3,7 +3,7 @@
 use super::order;
 use crate::util::floats::some;
 use crate::util::rng::SplitMix64;
-use crate::util::timing::{Bench, INPUTS, Limit, one, two};
+use crate::util::timing::{Bench, INPUTS, Limit, Pair, one, two};
 use std::f64::consts::TAU;
 use std::hint::black_box;
 
@@ -21,9 +21,9 @@ extern "C" fn rust_total_cmp(x: f64, y: f64) -> u32 {
     order(x, y)
 }
 
-fn comparing(f: extern "C" fn(f64, f64) -> u32) -> impl Fn(f64, f64) -> u64 {
+fn comparing(f: extern "C" fn(f64, f64) -> u32) -> impl Fn(Pair) -> u64 {
     let f = black_box(f);
-    move |x, y| u64::from(f(x, y))
+    move |(x, y)| u64::from(f(x, y))
 }
 
 pub fn bench(table: &mut Bench) {
@@ -31,7 +31,7 @@ pub fn bench(table: &mut Bench) {
 
     let squares = some(INPUTS, || (r.between(0.0, 1e6), 0.0));
     let ours = one(ffi::bf_sqrt);
-    let inlined = |x: f64, _| x.sqrt().to_bits();
+    let inlined = |(x, _): Pair| x.sqrt().to_bits();
     table.add(
         "`sqrt`, 0 to 1e6",
         Limit::Times(25.0),
@@ -49,7 +49,7 @@ pub fn bench(table: &mut Bench) {
 
     let coordinates = some(INPUTS, || (r.between(-1e3, 1e3), 0.0));
     let ours = one(ffi::bf_floor);
-    let inlined = |x: f64, _| x.floor().to_bits();
+    let inlined = |(x, _): Pair| x.floor().to_bits();
     table.add(
         "`floor`, -1e3 to 1e3",
         Limit::None,

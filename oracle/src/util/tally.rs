@@ -50,7 +50,7 @@ impl<A: Value, B: Value, C: Value> Value for (A, B, C) {
     }
 }
 
-/// Examples kept of each function that differs.
+/// Examples kept of each function that differs: those that take the least room to write.
 const EXAMPLES: usize = 5;
 
 pub struct Tally {
@@ -64,35 +64,41 @@ pub struct Tally {
 impl Tally {
     /// Runs both sides on every input.
     pub fn of<I: Value, O: Value>(
-        [ours_name, rust_name]: [&'static str; 2],
+        names: [&'static str; 2],
         inputs: impl IntoIterator<Item = I>,
         ours: impl Fn(I) -> O,
         rust: impl Fn(I) -> O,
     ) -> Self {
-        let mut tally = Self {
-            ours: ours_name,
-            rust: rust_name,
-            points: 0,
-            differ: 0,
-            examples: Vec::new(),
-        };
+        let mut tally = Self::new(names);
         for input in inputs {
             tally.add(input, ours(input), rust(input));
         }
         tally
     }
 
-    fn add<I: Value, O: Value>(&mut self, input: I, ours: O, rust: O) {
+    pub fn new([ours, rust]: [&'static str; 2]) -> Self {
+        Self {
+            ours,
+            rust,
+            points: 0,
+            differ: 0,
+            examples: Vec::new(),
+        }
+    }
+
+    pub fn add<I: Value, O: Value>(&mut self, input: I, ours: O, rust: O) {
         self.points += 1;
         if ours.same(rust) {
             return;
         }
         self.differ += 1;
-        if self.examples.len() < EXAMPLES {
-            let (i, o, r) = (input.show(), ours.show(), rust.show());
-            self.examples
-                .push(format!("- `{}` of {i}: ours {o}, Rust {r}", self.ours));
-        }
+        let (i, o, r) = (input.show(), ours.show(), rust.show());
+        let example = format!("- `{}` of {i}: ours {o}, Rust {r}", self.ours);
+        let longer = |e: &String| e.len() > example.len();
+        let at = self.examples.iter().position(longer);
+        let at = at.unwrap_or(self.examples.len());
+        self.examples.insert(at, example);
+        self.examples.truncate(EXAMPLES);
     }
 }
 

@@ -13,19 +13,43 @@ pub const INPUTS: usize = 1 << 16;
 
 pub type Pair = (f64, f64);
 
-fn throughput(inputs: &[Pair], call: &impl Fn(f64, f64) -> u64) -> u64 {
-    inputs.iter().fold(0, |all, &(x, y)| all ^ call(x, y))
+/// What a call is timed on.
+pub trait Input: Copy {
+    /// The same for `zero` 0, which the compiler does not know.
+    fn waiting(self, zero: u64) -> Self;
 }
 
-fn latency(inputs: &[Pair], call: &impl Fn(f64, f64) -> u64) -> u64 {
+/// A float that hangs on `zero`.
+pub fn waiting(x: f64, zero: u64) -> f64 {
+    f64::from_bits(x.to_bits() ^ zero)
+}
+
+impl Input for Pair {
+    fn waiting(self, zero: u64) -> Self {
+        (waiting(self.0, zero), self.1)
+    }
+}
+
+impl<const N: usize> Input for [f64; N] {
+    fn waiting(mut self, zero: u64) -> Self {
+        self[0] = waiting(self[0], zero);
+        self
+    }
+}
+
+fn throughput<I: Input>(inputs: &[I], call: &impl Fn(I) -> u64) -> u64 {
+    inputs.iter().fold(0, |all, &input| all ^ call(input))
+}
+
+fn latency<I: Input>(inputs: &[I], call: &impl Fn(I) -> u64) -> u64 {
     // The compiler does not know that this is 0, so it must wait for the last answer.
     let zero = black_box(0);
-    inputs.iter().fold(0, |last, &(x, y)| {
-        call(f64::from_bits(x.to_bits() ^ (last & zero)), y)
-    })
+    inputs
+        .iter()
+        .fold(0, |last, input| call(input.waiting(last & zero)))
 }
 
-fn nanoseconds(inputs: &[Pair], run: impl FnOnce() -> u64) -> f64 {
+fn nanoseconds<I>(inputs: &[I], run: impl FnOnce() -> u64) -> f64 {
     let start = Instant::now();
     black_box(run());
     start.elapsed().as_secs_f64() * 1e9 / inputs.len() as f64
@@ -44,7 +68,7 @@ impl Best {
         latency: f64::INFINITY,
     };
 
-    fn run(&mut self, inputs: &[Pair], call: &impl Fn(f64, f64) -> u64) {
+    fn run<I: Input>(&mut self, inputs: &[I], call: &impl Fn(I) -> u64) {
         let inputs = black_box(inputs);
         let t = nanoseconds(inputs, || throughput(inputs, call));
         let l = nanoseconds(inputs, || latency(inputs, call));
@@ -72,13 +96,13 @@ impl Bench {
     }
 
     /// Times one function. The two sides take turns, so that both see the same machine.
-    pub fn add(
+    pub fn add<I: Input>(
         &mut self,
         what: &str,
         limit: Limit,
-        inputs: &[Pair],
-        ours: impl Fn(f64, f64) -> u64,
-        rust: impl Fn(f64, f64) -> u64,
+        inputs: &[I],
+        ours: impl Fn(I) -> u64,
+        rust: impl Fn(I) -> u64,
     ) {
         let (mut a, mut b) = (Best::NONE, Best::NONE);
         for _ in 0..RUNS {
@@ -130,12 +154,12 @@ impl Limit {
 }
 
 /// One call of a function that the compiler does not know, so that it inlines neither side.
-pub fn one(f: extern "C" fn(f64) -> f64) -> impl Fn(f64, f64) -> u64 {
+pub fn one(f: extern "C" fn(f64) -> f64) -> impl Fn(Pair) -> u64 {
     let f = black_box(f);
-    move |x, _| f(x).to_bits()
+    move |(x, _)| f(x).to_bits()
 }
 
-pub fn two(f: extern "C" fn(f64, f64) -> f64) -> impl Fn(f64, f64) -> u64 {
+pub fn two(f: extern "C" fn(f64, f64) -> f64) -> impl Fn(Pair) -> u64 {
     let f = black_box(f);
-    move |x, y| f(x, y).to_bits()
+    move |(x, y)| f(x, y).to_bits()
 }

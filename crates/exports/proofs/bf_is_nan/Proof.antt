@@ -6,11 +6,11 @@ use Rattle.exports.proofs.bf_is_nan.Tie as tie
 is-nan-requires : tie.Need-is-nan-requires
 is-nan-requires c κs = search needs
 
-returns : tie.Need-returns
-returns c = simp (← c .before .is-nan .ensures, c .if1 .taken)
+bit-requires : tie.Need-bit-requires
+bit-requires c κs = search needs
 
-returns-2 : tie.Need-returns-2
-returns-2 c = simp (← c .before .is-nan .ensures, c .if1 .left)
+returns : tie.Need-returns
+returns c = cc
 
 pub bf-is-nan-spec : {M : Type 1} → statement M
-bf-is-nan-spec = tie.close (tie.spec is-nan-requires returns returns-2)
+bf-is-nan-spec = tie.close (tie.spec is-nan-requires bit-requires returns)

@@ -1,20 +1,14 @@
+-- `exports::bf_rng_next_f64` meets its contract. Assumes nothing.
 use borrow.Author.Needs.{needs}
 use Rattle.exports.proofs.bf_rng_next_f64.Statement.{statement}
 use Rattle.exports.proofs.bf_rng_next_f64.Tie as tie
-use Rattle.exports.proofs.bf_rng_next_f64.Reads as reads
-use Rattle.exports.proofs.bf_rng_next_f64.Lts as lts
-use Rattle.rng.proofs.Rng.new.Reads as new-reads
-use Rattle.rng.proofs.Rng.next_f64.Reads as next-f64-reads
 
--- src/lib.rt:162:13
 new-requires : tie.Need-new-requires
 new-requires c κs = search needs
 
--- src/lib.rt:162:9
 next-f64-requires : tie.Need-next-f64-requires
 next-f64-requires c κs = search needs
 
--- src/lib.rt:158:1
 returns : tie.Need-returns
 returns c = (simp (c .before .next-f64 .ensures, c .before .before .new .ensures), simp (c .before .next-f64 .ensures, c .before .before .new .ensures))
 

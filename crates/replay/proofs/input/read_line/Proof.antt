@@ -1,16 +1,10 @@
-use Prim.Native.Nat.{_≤_, _-_, _+_}
+-- `replay::input::read_line` meets its contract. Assumes nothing.
+use Prim.Native.Nat.{_-_}
 use mathlib.Core.Path.{_≡_}
 use lib.ListN.{length}
 use borrow.Author.Needs.{needs}
-use native.Mathlib.Omega.{arith}
 use Rattle.replay.proofs.input.read_line.Statement.{statement}
 use Rattle.replay.proofs.input.read_line.Tie as tie
-use Rattle.replay.proofs.input.read_line.Reads as reads
-use Rattle.replay.proofs.input.read_line.Lts as lts
-use Rattle.replay.proofs.input.digit.Reads as digit-reads
-use Rattle.replay.proofs.input.longer.Reads as longer-reads
-use Rattle.replay.proofs.input.next_byte.Reads as next-byte-reads
-use Rattle.replay.proofs.input.push.Reads as push-reads
 
 abbrev Inv-loop : tie.InvT-loop
 Inv-loop chunk₀ out₀ place₀ n₀ w₀ left₀ chunk out place n w left = (length chunk ≡ length chunk₀) × (length out ≡ length out₀)
@@ -18,67 +12,51 @@ Inv-loop chunk₀ out₀ place₀ n₀ w₀ left₀ chunk out place n w left = (
 abbrev μ-loop : tie.MeasureT-loop
 μ-loop chunk₀ out₀ place₀ n₀ w₀ left₀ chunk out place n w left = left
 
--- src/input.rt:92:5
 loop-holds : tie.Need-loop-holds Inv-loop μ-loop
 loop-holds c = search needs
 
--- src/input.rt:93:9
 sub-left : tie.Need-sub-left Inv-loop μ-loop
 sub-left c = search needs
 
--- src/input.rt:94:13
 next-byte-requires : tie.Need-next-byte-requires Inv-loop μ-loop
 next-byte-requires c κs = search needs
 
--- src/input.rt:97:13
 digit-requires : tie.Need-digit-requires Inv-loop μ-loop
 digit-requires c κs = search needs
 
--- src/input.rt:99:13
 longer-requires : tie.Need-longer-requires Inv-loop μ-loop
 longer-requires c κs = search needs
 
--- src/input.rt:92:5
 loop-less : tie.Need-loop-less Inv-loop μ-loop
 loop-less c = search needs
 
--- src/input.rt:92:5
 loop-again : tie.Need-loop-again Inv-loop μ-loop
 loop-again c = search needs
 
--- src/input.rt:101:13
 push-requires : tie.Need-push-requires Inv-loop μ-loop
 push-requires c κs = search needs
 
--- src/input.rt:104:17
 same-length : tie.Need-same-length Inv-loop μ-loop
 same-length c = search needs
 
--- src/input.rt:104:17
 same-length-2 : tie.Need-same-length-2 Inv-loop μ-loop
 same-length-2 c = search needs
 
--- src/input.rt:104:17
 returns : tie.Need-returns Inv-loop μ-loop
 returns c = search needs
 
--- src/input.rt:92:5
 loop-less-2 : tie.Need-loop-less-2 Inv-loop μ-loop
 loop-less-2 c = search needs
 
--- src/input.rt:92:5
 loop-again-2 : tie.Need-loop-again-2 Inv-loop μ-loop
 loop-again-2 c = search needs
 
--- src/input.rt:87:1
 same-length-3 : tie.Need-same-length-3 Inv-loop μ-loop
 same-length-3 c = search needs
 
--- src/input.rt:87:1
 same-length-4 : tie.Need-same-length-4 Inv-loop μ-loop
 same-length-4 c = search needs
 
--- src/input.rt:87:1
 returns-2 : tie.Need-returns-2 Inv-loop μ-loop
 returns-2 c = search needs
 

@@ -1,0 +1,2 @@
+-- The laws under the functions of `geom`.
+mod Sizes

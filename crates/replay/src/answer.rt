@@ -1,0 +1,106 @@
+// What a call of numbers answers: a few words, the rest 0.
+use crate::words::put;
+
+pub struct Answer {
+    pub count: usize,
+    pub words: [u64; 5],
+}
+
+// No such function.
+pub fn nothing() -> Answer {
+    Answer {
+        count: 0,
+        words: [0; 5],
+    }
+}
+
+fn pattern(x: f64) -> u64 {
+    num::to_bits(x + 0.0)
+}
+
+fn wide(x: u32) -> u64 {
+    x as u64
+}
+
+pub fn word(w: u64) -> Answer {
+    Answer {
+        count: 1,
+        words: [w, 0, 0, 0, 0],
+    }
+}
+
+pub fn number(n: u32) -> Answer {
+    word(wide(n))
+}
+
+pub fn float(x: f64) -> Answer {
+    word(pattern(x))
+}
+
+pub fn floats2(v: [f64; 2]) -> Answer {
+    Answer {
+        count: 2,
+        words: [pattern(v[0]), pattern(v[1]), 0, 0, 0],
+    }
+}
+
+pub fn floats4(v: [f64; 4]) -> Answer {
+    Answer {
+        count: 4,
+        words: [
+            pattern(v[0]),
+            pattern(v[1]),
+            pattern(v[2]),
+            pattern(v[3]),
+            0,
+        ],
+    }
+}
+
+// A word and then another.
+pub fn both(v: u64, w: u64) -> Answer {
+    Answer {
+        count: 2,
+        words: [v, w, 0, 0, 0],
+    }
+}
+
+// A number and then floats.
+pub fn number1(n: u32, x: f64) -> Answer {
+    both(wide(n), pattern(x))
+}
+
+pub fn number2(n: u32, v: [f64; 2]) -> Answer {
+    Answer {
+        count: 3,
+        words: [wide(n), pattern(v[0]), pattern(v[1]), 0, 0],
+    }
+}
+
+pub fn number4(n: u32, v: [f64; 4]) -> Answer {
+    Answer {
+        count: 5,
+        words: [
+            wide(n),
+            pattern(v[0]),
+            pattern(v[1]),
+            pattern(v[2]),
+            pattern(v[3]),
+        ],
+    }
+}
+
+// A draw, as a float, and the state after it.
+pub fn float_state(x: f64, state: u64) -> Answer {
+    both(pattern(x), state)
+}
+
+// The words of an answer into out; how many there are.
+pub fn store(out: &mut [u64], a: Answer) -> usize {
+    put(out, 0, a.words[0]);
+    put(out, 1, a.words[1]);
+    put(out, 2, a.words[2]);
+    put(out, 3, a.words[3]);
+    put(out, 4, a.words[4]);
+    a.count
+}
