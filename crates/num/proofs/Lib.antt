@@ -4,9 +4,9 @@ mod FloorLaws
 mod CompareLaws
 pub mod RootLaws
 mod RootBits
-mod SqrtLaws
+pub mod SqrtLaws
 mod RemLaws
-mod NearLaws
+pub mod NearLaws
 mod BitLaws
 pub mod Ranks
 pub mod SquareRoot

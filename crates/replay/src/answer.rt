@@ -97,10 +97,11 @@ pub fn float_state(x: f64, state: u64) -> Answer {
 
 // The words of an answer into out; how many there are.
 pub fn store(out: &mut [u64], a: Answer) -> usize {
-    put(out, 0, a.words[0]);
-    put(out, 1, a.words[1]);
-    put(out, 2, a.words[2]);
-    put(out, 3, a.words[3]);
-    put(out, 4, a.words[4]);
+    let words = a.words;
+    let mut i: usize = 0;
+    while i < 5 {
+        put(out, i, words[i]);
+        i += 1;
+    }
     a.count
 }

@@ -5,39 +5,51 @@ use crate::plane;
 use crate::words::float;
 use crate::words::word;
 
-// num: 101 to 112
-fn answer_num(f: u64, x: f64, y: f64, z: f64) -> Answer {
+// num, a number as the answer: 104, 108 and 110
+fn answer_number(f: u64, x: f64, y: f64) -> Answer {
     match f {
-        101 => answer::float(exports::bf_floor(x)),
-        102 => answer::float(exports::bf_ceil(x)),
-        103 => answer::float(exports::bf_abs(x)),
         104 => answer::number(exports::bf_is_nan(x)),
-        105 => answer::float(exports::bf_min(x, y)),
-        106 => answer::float(exports::bf_max(x, y)),
-        107 => answer::float(exports::bf_clamp(x, y, z)),
         108 => answer::word(exports::bf_to_u64(x)),
         110 => answer::number(exports::bf_total_cmp(x, y)),
-        111 => answer::float(exports::bf_rem_euclid(x, y)),
-        112 => answer::float(exports::bf_sqrt(x)),
         _ => answer::nothing(),
     }
 }
 
+// num: 101 to 112
+fn answer_num(f: u64, x: f64, y: f64, z: f64) -> Answer {
+    let r = match f {
+        101 => exports::bf_floor(x),
+        102 => exports::bf_ceil(x),
+        103 => exports::bf_abs(x),
+        105 => exports::bf_min(x, y),
+        106 => exports::bf_max(x, y),
+        107 => exports::bf_clamp(x, y, z),
+        111 => exports::bf_rem_euclid(x, y),
+        112 => exports::bf_sqrt(x),
+        _ => return answer_number(f, x, y),
+    };
+    answer::float(r)
+}
+
+// A sine and a cosine from one call: 203
+fn answer_both(x: f64) -> Answer {
+    let mut sin = 0.0;
+    let mut cos = 0.0;
+    exports::bf_sin_cos(x, &mut sin, &mut cos);
+    answer::floats2([sin, cos])
+}
+
 // angle: 201 to 205
 fn answer_angle(f: u64, x: f64, y: f64) -> Answer {
-    if f == 203 {
-        let mut sin = 0.0;
-        let mut cos = 0.0;
-        exports::bf_sin_cos(x, &mut sin, &mut cos);
-        return answer::floats2([sin, cos]);
-    }
-    match f {
-        201 => answer::float(exports::bf_sin(x)),
-        202 => answer::float(exports::bf_cos(x)),
-        204 => answer::float(exports::bf_atan2(x, y)),
-        205 => answer::float(exports::bf_acos(x)),
-        _ => answer::nothing(),
-    }
+    let r = match f {
+        201 => exports::bf_sin(x),
+        202 => exports::bf_cos(x),
+        203 => return answer_both(x),
+        204 => exports::bf_atan2(x, y),
+        205 => exports::bf_acos(x),
+        _ => return answer::nothing(),
+    };
+    answer::float(r)
 }
 
 // rng: 301 to 303

@@ -1,34 +1,25 @@
 // Words of hexadecimal digits, line by line, from standard input.
+// What is left of the chunk that was read last stands from `at` up to `len`.
 use libc::STDIN_FILENO;
 
-// What is left of the chunk that was read last: from at up to len.
-pub struct Place {
-    pub at: usize,
-    pub len: usize,
-}
-
-pub fn start() -> Place {
-    Place { at: 0, len: 0 }
-}
-
-// A byte, or 256 at the end of the input.
+// A byte, or 256 at the end of the input, and what is left then.
 struct Byte {
     pub value: u32,
-    pub place: Place,
+    pub at: usize,
+    pub len: usize,
 }
 
 fn wide(b: u8) -> u32 {
     b as u32
 }
 
-fn next_byte(chunk: &mut [u8], place: Place) -> Byte {
-    let at = place.at;
-    let len = place.len;
+fn next_byte(chunk: &mut [u8], at: usize, len: usize) -> Byte {
     if at < len {
         if at < chunk.len() {
             return Byte {
                 value: wide(chunk[at]),
-                place: Place { at: at + 1, len },
+                at: at + 1,
+                len,
             };
         }
     }
@@ -38,13 +29,15 @@ fn next_byte(chunk: &mut [u8], place: Place) -> Byte {
         if 0 < chunk.len() {
             return Byte {
                 value: wide(chunk[0]),
-                place: Place { at: 1, len: n },
+                at: 1,
+                len: n,
             };
         }
     }
     Byte {
         value: 256,
-        place: Place { at: 0, len: 0 },
+        at: 0,
+        len: 0,
     }
 }
 
@@ -77,22 +70,25 @@ fn push(out: &mut [u64], n: usize, w: u64) -> usize {
     n
 }
 
-// A line: how many words it has, whether the input ended before it did, and where the next one starts.
+// A line: how many words it has, whether the input ended before it did, and what is left of the chunk.
 pub struct Line {
     pub words: usize,
     pub end: bool,
-    pub place: Place,
+    pub at: usize,
+    pub len: usize,
 }
 
-pub fn read_line(chunk: &mut [u8], from: Place, out: &mut [u64]) -> Line {
-    let mut place = from;
+pub fn read_line(chunk: &mut [u8], from: usize, to: usize, out: &mut [u64]) -> Line {
+    let mut at = from;
+    let mut len = to;
     let mut n: usize = 0;
     let mut w: u64 = 0;
     let mut left: u32 = 1000000;
     while 0 < left {
         left -= 1;
-        let b = next_byte(chunk, place);
-        place = b.place;
+        let b = next_byte(chunk, at, len);
+        at = b.at;
+        len = b.len;
         let v = b.value;
         let d = digit(v);
         if d < 16 {
@@ -104,7 +100,8 @@ pub fn read_line(chunk: &mut [u8], from: Place, out: &mut [u64]) -> Line {
                 return Line {
                     words: n,
                     end: v != 10,
-                    place,
+                    at,
+                    len,
                 };
             }
         }
@@ -112,6 +109,7 @@ pub fn read_line(chunk: &mut [u8], from: Place, out: &mut [u64]) -> Line {
     Line {
         words: 0,
         end: true,
-        place,
+        at,
+        len,
     }
 }

@@ -1,5 +1,5 @@
 // Replays a fixed sample of the Rust's answers, with no Rust at hand: each line of the input is a call and what the Rust answered.
-// A line is words of hexadecimal digits with a space between: the function's number (numbers.rt), its arguments, its results.
+// A line is words of hexadecimal digits with a space between: the function's number (call.rt), its arguments, its results.
 // A float is its bit pattern, a result after adding 0.0 so that the sign of a zero does not count, every NaN as one.
 // `oracle/run sample` writes the input. The program prints how many lines it read, over how many functions, and how many differ.
 mod answer;
@@ -22,12 +22,6 @@ struct Tally {
     pub differ: u64,
 }
 
-// Whether the line's last words are what our function answers.
-fn agrees(words: &[u64], n: usize, results: &mut [u64]) -> bool {
-    let r = call::answer(words, n, results);
-    words::same_tail(words, n, results, r)
-}
-
 // 1 for no, 0 for yes: what a line adds to the count of those that differ.
 fn one_if_not(ok: bool) -> u64 {
     if ok { 0 } else { 1 }
@@ -46,6 +40,13 @@ fn counted(t: Tally, f: u64, ok: bool) -> Tally {
     }
 }
 
+// t with a line of n words counted: its last words are to be what our function answers.
+fn replayed(t: Tally, words: &[u64], n: usize, results: &mut [u64]) -> Tally {
+    let r = call::answer(words, n, results);
+    let ok = words::same_tail(words, n, results, r);
+    counted(t, words::word(words, 0), ok)
+}
+
 fn report(t: Tally) {
     io::print_decimal(STDOUT_FILENO, t.lines);
     print(b" answers of ");
@@ -60,7 +61,8 @@ fn main() {
     let mut chunk = [0u8; 16384];
     let mut words = [0u64; 1024];
     let mut results = [0u64; 256];
-    let mut place = input::start();
+    let mut at: usize = 0;
+    let mut len: usize = 0;
     let mut t = Tally {
         lines: 0,
         functions: 0,
@@ -70,13 +72,13 @@ fn main() {
     let mut left: u32 = 4000000;
     while 0 < left {
         left -= 1;
-        let line = input::read_line(&mut chunk, place, &mut words);
-        place = line.place;
+        let line = input::read_line(&mut chunk, at, len, &mut words);
+        at = line.at;
+        len = line.len;
         if line.end {
             left = 0;
         } else {
-            let ok = agrees(&words, line.words, &mut results);
-            t = counted(t, words::word(&words, 0), ok);
+            t = replayed(t, &words, line.words, &mut results);
         }
     }
     report(t);

@@ -6,135 +6,116 @@ use crate::words::float;
 use crate::words::word;
 use exports::plane;
 
-// The nine words after the function's number, as floats.
-fn arguments(w: &[u64]) -> [f64; 9] {
-    [
-        float(w, 1),
-        float(w, 2),
-        float(w, 3),
-        float(w, 4),
-        float(w, 5),
-        float(w, 6),
-        float(w, 7),
-        float(w, 8),
-        float(w, 9),
-    ]
-}
-
-// Vec2, a float as its answer.
-fn answer_vec2(f: u64, a: [f64; 9]) -> Answer {
-    match f {
-        402 => return answer::float(plane::bf_vec2_dot(a[0], a[1], a[2], a[3])),
-        403 => return answer::float(plane::bf_vec2_cross(a[0], a[1], a[2], a[3])),
-        404 => return answer::float(plane::bf_vec2_length_sq(a[0], a[1])),
-        405 => return answer::float(plane::bf_vec2_length(a[0], a[1])),
-        406 => return answer::float(plane::bf_vec2_distance(a[0], a[1], a[2], a[3])),
-        407 => return answer::float(plane::bf_vec2_distance_sq(a[0], a[1], a[2], a[3])),
-        408 => return answer::float(plane::bf_vec2_angle(a[0], a[1])),
+// Vec2, a float as its answer: 402 to 408
+fn answer_vec2(f: u64, a: f64, b: f64, c: f64, d: f64) -> Answer {
+    let r = match f {
+        402 => plane::bf_vec2_dot(a, b, c, d),
+        403 => plane::bf_vec2_cross(a, b, c, d),
+        404 => plane::bf_vec2_length_sq(a, b),
+        405 => plane::bf_vec2_length(a, b),
+        406 => plane::bf_vec2_distance(a, b, c, d),
+        407 => plane::bf_vec2_distance_sq(a, b, c, d),
+        408 => plane::bf_vec2_angle(a, b),
         _ => return answer::nothing(),
-    }
+    };
+    answer::float(r)
 }
 
-// Vec2, a point as its answer.
-fn answer_point(f: u64, a: [f64; 9]) -> Answer {
+// Vec2, a point as its answer: 401, 409 to 413
+fn answer_point(f: u64, a: f64, b: f64, c: f64, d: f64, e: f64) -> Answer {
     let mut out = [0.0; 2];
     match f {
-        401 => plane::bf_vec2_from_angle(a[0], &mut out),
-        409 => plane::bf_vec2_lerp(a[0], a[1], a[2], a[3], a[4], &mut out),
-        410 => plane::bf_vec2_add(a[0], a[1], a[2], a[3], &mut out),
-        411 => plane::bf_vec2_sub(a[0], a[1], a[2], a[3], &mut out),
-        412 => plane::bf_vec2_mul(a[0], a[1], a[2], &mut out),
-        413 => plane::bf_vec2_neg(a[0], a[1], &mut out),
+        401 => plane::bf_vec2_from_angle(a, &mut out),
+        409 => plane::bf_vec2_lerp(a, b, c, d, e, &mut out),
+        410 => plane::bf_vec2_add(a, b, c, d, &mut out),
+        411 => plane::bf_vec2_sub(a, b, c, d, &mut out),
+        412 => plane::bf_vec2_mul(a, b, c, &mut out),
+        413 => plane::bf_vec2_neg(a, b, &mut out),
         _ => return answer::nothing(),
     }
     answer::floats2(out)
 }
 
-// A box, a box as the answer: 422 to 424
-fn answer_box(f: u64, a: [f64; 9]) -> Answer {
-    let b = [a[0], a[1], a[2], a[3]];
-    let c = [a[4], a[5], a[6], a[7]];
+// Aabb, a box as its answer: 423 and 424
+fn answer_box(f: u64, b: &[f64; 4], c: &[f64; 4], x: f64, y: f64) -> Answer {
     let mut out = [0.0; 4];
     match f {
-        422 => plane::bf_aabb_around(a[0], a[1], a[2], &mut out),
-        423 => plane::bf_aabb_include(&b, a[4], a[5], &mut out),
-        424 => plane::bf_aabb_union(&b, &c, &mut out),
+        423 => plane::bf_aabb_include(b, x, y, &mut out),
+        424 => plane::bf_aabb_union(b, c, &mut out),
         _ => return answer::nothing(),
     }
     answer::floats4(out)
 }
 
-// A box, a number as the answer: 425 to 430
-fn answer_of_box(f: u64, a: [f64; 9]) -> Answer {
-    let b = [a[0], a[1], a[2], a[3]];
-    let c = [a[4], a[5], a[6], a[7]];
+// Aabb, a number as its answer: 425 to 430
+fn answer_of_box(f: u64, b: &[f64; 4], c: &[f64; 4], x: f64, y: f64) -> Answer {
     match f {
-        425 => return answer::number(plane::bf_aabb_is_empty(&b)),
-        426 => return answer::number(plane::bf_aabb_contains(&b, a[4], a[5])),
-        427 => return answer::number(plane::bf_aabb_intersects(&b, &c)),
-        428 => return answer::float(plane::bf_aabb_distance_sq_to(&b, a[4], a[5])),
-        429 => return answer::float(plane::bf_aabb_width(&b)),
-        430 => return answer::float(plane::bf_aabb_height(&b)),
-        _ => return answer::nothing(),
+        425 => answer::number(plane::bf_aabb_is_empty(b)),
+        426 => answer::number(plane::bf_aabb_contains(b, x, y)),
+        427 => answer::number(plane::bf_aabb_intersects(b, c)),
+        428 => answer::float(plane::bf_aabb_distance_sq_to(b, x, y)),
+        429 => answer::float(plane::bf_aabb_width(b)),
+        430 => answer::float(plane::bf_aabb_height(b)),
+        _ => answer::nothing(),
     }
 }
 
-// Angles and segments: 441 to 444
-fn answer_segment(f: u64, a: [f64; 9]) -> Answer {
-    let mut t = 0.0;
-    let mut out = [0.0; 2];
-    if f == 441 {
-        return answer::float(plane::bf_normalize_angle(a[0]));
+// 422, and the two groups above
+fn answer_boxes(f: u64, a: f64, b: f64, c: f64, d: f64, e: f64, g: f64, h: f64, k: f64) -> Answer {
+    if f == 422 {
+        let mut out = [0.0; 4];
+        plane::bf_aabb_around(a, b, c, &mut out);
+        return answer::floats4(out);
     }
+    let first = [a, b, c, d];
+    let second = [e, g, h, k];
+    if f < 425 {
+        return answer_box(f, &first, &second, e, g);
+    }
+    answer_of_box(f, &first, &second, e, g)
+}
+
+// A ray and segments: 442 to 444
+fn answer_segment(
+    f: u64,
+    a: f64,
+    b: f64,
+    c: f64,
+    d: f64,
+    e: f64,
+    g: f64,
+    h: f64,
+    k: f64,
+) -> Answer {
     if f == 442 {
-        let n = plane::bf_ray_segment(a[0], a[1], a[2], a[3], a[4], a[5], a[6], a[7], &mut t);
+        let mut t = 0.0;
+        let n = plane::bf_ray_segment(a, b, c, d, e, g, h, k, &mut t);
         return answer::number1(n, t);
     }
     if f == 443 {
-        let n = plane::bf_segment_intersection(
-            a[0],
-            a[1],
-            a[2],
-            a[3],
-            a[4],
-            a[5],
-            a[6],
-            a[7],
-            &mut out,
-        );
+        let mut out = [0.0; 2];
+        let n = plane::bf_segment_intersection(a, b, c, d, e, g, h, k, &mut out);
         return answer::number2(n, out);
     }
-    answer::number(plane::bf_segments_intersect(a[0], a[1], a[2], a[3], a[4], a[5], a[6], a[7]))
+    answer::number(plane::bf_segments_intersect(a, b, c, d, e, g, h, k))
 }
 
 // A segment and a circle, a segment and a point: 445 to 447
-fn answer_circle(f: u64, a: [f64; 9]) -> Answer {
-    let mut two = [0.0; 2];
-    let mut four = [0.0; 4];
+fn answer_circle(f: u64, a: f64, b: f64, c: f64, d: f64, e: f64, g: f64, h: f64) -> Answer {
     if f == 445 {
-        let n = plane::bf_clip_segment_to_disk(a[0], a[1], a[2], a[3], a[4], a[5], a[6], &mut two);
-        return answer::number2(n, two);
+        let mut out = [0.0; 2];
+        let n = plane::bf_clip_segment_to_disk(a, b, c, d, e, g, h, &mut out);
+        return answer::number2(n, out);
     }
     if f == 446 {
-        let n = plane::bf_segment_circle_points(
-            a[0],
-            a[1],
-            a[2],
-            a[3],
-            a[4],
-            a[5],
-            a[6],
-            &mut four,
-        );
-        return answer::number4(n, four);
+        let mut out = [0.0; 4];
+        let n = plane::bf_segment_circle_points(a, b, c, d, e, g, h, &mut out);
+        return answer::number4(n, out);
     }
-    if f == 447 {
-        return answer::float(plane::bf_point_segment_distance(a[0], a[1], a[2], a[3], a[4], a[5]));
-    }
-    answer::nothing()
+    answer::float(plane::bf_point_segment_distance(a, b, c, d, e, g))
 }
 
-// 64 words of w from `first` on.
+// Up to 64 numbers of w from `first` on.
 fn filled(w: &[u64], first: usize) -> [f64; 64]
     requires { ⌜ first < 8 ⌝ }
 {
@@ -148,18 +129,18 @@ fn filled(w: &[u64], first: usize) -> [f64; 64]
 }
 
 fn answer_ring(f: u64, x: f64, y: f64, points: &[f64]) -> Answer {
-    let mut out = [0.0; 4];
+    if f == 421 {
+        let mut out = [0.0; 4];
+        plane::bf_aabb_from_points(points, &mut out);
+        return answer::floats4(out);
+    }
     if f == 448 {
         return answer::number(plane::bf_point_in_polygon(x, y, points));
     }
-    if f == 449 {
-        return answer::float(plane::bf_signed_area(points));
-    }
-    plane::bf_aabb_from_points(points, &mut out);
-    answer::floats4(out)
+    answer::float(plane::bf_signed_area(points))
 }
 
-// What takes points, their count at `at`: 421, 448 and 449. There is room for 64 numbers; over that is no answer.
+// Points, their count at `at`: 421, 448 and 449. There is room for 64 numbers; over that is no answer.
 fn answer_points(f: u64, w: &[u64], at: usize) -> Answer
     requires { ⌜ at < 4 ⌝ }
 {
@@ -173,25 +154,33 @@ fn answer_points(f: u64, w: &[u64], at: usize) -> Answer
 }
 
 // What takes numbers alone.
-fn answer_floats(f: u64, a: [f64; 9]) -> Answer {
-    if f < 414 {
-        if 402 <= f {
-            if f < 409 {
-                return answer_vec2(f, a);
-            }
+fn answer_floats(f: u64, w: &[u64]) -> Answer {
+    let a = float(w, 1);
+    let b = float(w, 2);
+    let c = float(w, 3);
+    let d = float(w, 4);
+    let e = float(w, 5);
+    let g = float(w, 6);
+    let h = float(w, 7);
+    let k = float(w, 8);
+    if f < 409 {
+        if 401 < f {
+            return answer_vec2(f, a, b, c, d);
         }
-        return answer_point(f, a);
     }
-    if f < 425 {
-        return answer_box(f, a);
+    if f < 414 {
+        return answer_point(f, a, b, c, d, e);
     }
     if f < 441 {
-        return answer_of_box(f, a);
+        return answer_boxes(f, a, b, c, d, e, g, h, k);
+    }
+    if f == 441 {
+        return answer::float(plane::bf_normalize_angle(a));
     }
     if f < 445 {
-        return answer_segment(f, a);
+        return answer_segment(f, a, b, c, d, e, g, h, k);
     }
-    answer_circle(f, a)
+    answer_circle(f, a, b, c, d, e, g, h)
 }
 
 pub fn answer_plane(f: u64, w: &[u64]) -> Answer {
@@ -204,5 +193,8 @@ pub fn answer_plane(f: u64, w: &[u64]) -> Answer {
     if f == 421 {
         return answer_points(f, w, 1);
     }
-    answer_floats(f, arguments(w))
+    if f < 448 {
+        return answer_floats(f, w);
+    }
+    answer::nothing()
 }

@@ -6,13 +6,10 @@ use Rattle.replay.proofs.main.Statement.{statement}
 use Rattle.replay.proofs.main.Tie as tie
 
 abbrev Inv-loop : tie.InvT-loop
-Inv-loop chunk₀ words₀ results₀ place₀ t₀ left₀ chunk words results place t left = (16384 ≡ length chunk) × (1024 ≡ length words) × (256 ≡ length results)
+Inv-loop chunk₀ words₀ results₀ at₀ len₀ t₀ left₀ chunk words results at len t left = (16384 ≡ length chunk) × (1024 ≡ length words) × (256 ≡ length results)
 
 abbrev μ-loop : tie.MeasureT-loop
-μ-loop chunk₀ words₀ results₀ place₀ t₀ left₀ chunk words results place t left = left
-
-start-requires : tie.Need-start-requires Inv-loop μ-loop
-start-requires c κs = search needs
+μ-loop chunk₀ words₀ results₀ at₀ len₀ t₀ left₀ chunk words results at len t left = left
 
 loop-holds : tie.Need-loop-holds Inv-loop μ-loop
 loop-holds c = search needs
@@ -35,23 +32,14 @@ loop-less c = search needs
 loop-again : tie.Need-loop-again Inv-loop μ-loop
 loop-again c = search needs
 
-slice-aggregate-agrees : tie.Need-slice-aggregate-agrees Inv-loop μ-loop
-slice-aggregate-agrees c = search needs
+slice-aggregate-replayed : tie.Need-slice-aggregate-replayed Inv-loop μ-loop
+slice-aggregate-replayed c = search needs
 
-slice-aggregate-agrees-2 : tie.Need-slice-aggregate-agrees-2 Inv-loop μ-loop
-slice-aggregate-agrees-2 c = search needs
+slice-aggregate-replayed-2 : tie.Need-slice-aggregate-replayed-2 Inv-loop μ-loop
+slice-aggregate-replayed-2 c = search needs
 
-agrees-requires : tie.Need-agrees-requires Inv-loop μ-loop
-agrees-requires c κs = search needs
-
-slice-aggregate-word : tie.Need-slice-aggregate-word Inv-loop μ-loop
-slice-aggregate-word c = search needs
-
-word-requires : tie.Need-word-requires Inv-loop μ-loop
-word-requires c κs = search needs
-
-counted-requires : tie.Need-counted-requires Inv-loop μ-loop
-counted-requires c κs = search needs
+replayed-requires : tie.Need-replayed-requires Inv-loop μ-loop
+replayed-requires c κs = search needs
 
 loop-less-2 : tie.Need-loop-less-2 Inv-loop μ-loop
 loop-less-2 c = search needs
@@ -71,7 +59,6 @@ main-spec =
     (tie.spec
     Inv-loop
     μ-loop
-    start-requires
     loop-holds
     sub-left
     slice-aggregate-read-line
@@ -79,12 +66,9 @@ main-spec =
     read-line-requires
     loop-less
     loop-again
-    slice-aggregate-agrees
-    slice-aggregate-agrees-2
-    agrees-requires
-    slice-aggregate-word
-    word-requires
-    counted-requires
+    slice-aggregate-replayed
+    slice-aggregate-replayed-2
+    replayed-requires
     loop-less-2
     loop-again-2
     report-requires

@@ -1,5 +1,4 @@
 -- `replay::input::read_line` meets its contract. Assumes nothing.
-use Prim.Native.Nat.{_-_}
 use mathlib.Core.Path.{_≡_}
 use lib.ListN.{length}
 use borrow.Author.Needs.{needs}
@@ -7,10 +6,10 @@ use Rattle.replay.proofs.input.read_line.Statement.{statement}
 use Rattle.replay.proofs.input.read_line.Tie as tie
 
 abbrev Inv-loop : tie.InvT-loop
-Inv-loop chunk₀ out₀ place₀ n₀ w₀ left₀ chunk out place n w left = (length chunk ≡ length chunk₀) × (length out ≡ length out₀)
+Inv-loop chunk₀ from to out₀ at₀ len₀ n₀ w₀ left₀ chunk out at len n w left = (length chunk ≡ length chunk₀) × (length out ≡ length out₀)
 
 abbrev μ-loop : tie.MeasureT-loop
-μ-loop chunk₀ out₀ place₀ n₀ w₀ left₀ chunk out place n w left = left
+μ-loop chunk₀ from to out₀ at₀ len₀ n₀ w₀ left₀ chunk out at len n w left = left
 
 loop-holds : tie.Need-loop-holds Inv-loop μ-loop
 loop-holds c = search needs

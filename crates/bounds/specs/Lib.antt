@@ -1,0 +1,3 @@
+-- What the laws of `bounds` speak of.
+pub mod Within
+pub mod Domain

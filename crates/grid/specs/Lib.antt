@@ -1,0 +1,5 @@
+-- What the functions of `grid` mean.
+pub mod Range
+pub mod Stamps
+pub mod Entries
+pub mod Query

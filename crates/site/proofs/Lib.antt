@@ -1,0 +1,6 @@
+-- Laws of `site`.
+pub mod AllTo
+pub mod Accessing
+pub mod Falling
+pub mod Ways
+pub mod SoundLaws

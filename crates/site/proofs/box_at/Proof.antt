@@ -1,0 +1,49 @@
+-- `site::box_at` meets its contract. Assumes nothing.
+use borrow.Author.Needs.{needs}
+use Rattle.site.proofs.box_at.Statement.{statement}
+use Rattle.site.proofs.box_at.Tie as tie
+
+wide-requires : tie.Need-wide-requires
+wide-requires c κs = search needs
+
+mul-at : tie.Need-mul-at
+mul-at c = search needs
+
+at64-requires : tie.Need-at64-requires
+at64-requires c κs = search needs
+
+add-at64 : tie.Need-add-at64
+add-at64 c = search needs
+
+at64-requires-2 : tie.Need-at64-requires-2
+at64-requires-2 c κs = search needs
+
+add-at64-2 : tie.Need-add-at64-2
+add-at64-2 c = search needs
+
+at64-requires-3 : tie.Need-at64-requires-3
+at64-requires-3 c κs = search needs
+
+add-at64-3 : tie.Need-add-at64-3
+add-at64-3 c = search needs
+
+at64-requires-4 : tie.Need-at64-requires-4
+at64-requires-4 c κs = search needs
+
+returns : tie.Need-returns
+returns c = simp (c .at644 .ensures, c .before .at643 .ensures, c .before .before .at642 .ensures, c .before .before .before .at64 .ensures, c .before .before .before .before .wide .ensures)
+
+pub box-at-spec : {M : Type 1} → statement M
+box-at-spec =
+    tie.close
+    (tie.spec
+    wide-requires
+    mul-at
+    at64-requires
+    add-at64
+    at64-requires-2
+    add-at64-2
+    at64-requires-3
+    add-at64-3
+    at64-requires-4
+    returns)

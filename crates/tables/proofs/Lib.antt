@@ -1,0 +1,7 @@
+-- Laws of the building, and the theorems on built tables.
+pub mod Cells
+pub mod Puts
+pub mod All
+pub mod Whole
+pub mod BuiltTables
+pub mod BuiltQuery

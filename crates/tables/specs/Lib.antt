@@ -1,0 +1,3 @@
+-- What the functions of `tables` mean.
+pub mod Tables
+pub mod Scatter

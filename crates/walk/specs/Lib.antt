@@ -1,0 +1,5 @@
+-- What the functions of `walk` mean.
+pub mod Clipping
+pub mod Steps
+pub mod Tours
+pub mod Samples

@@ -1,0 +1,11 @@
+-- The laws under the functions of `wkt`, and its theorems: Nearest and Written, that a number is read as the nearest float; Stored, what a caller finds.
+pub mod Compare
+pub mod Numerals
+pub mod Floats
+pub mod Nearest
+pub mod Prefix
+pub mod Stored
+pub mod Written
+pub mod Rings
+pub mod Lined
+pub mod Texts

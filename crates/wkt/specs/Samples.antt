@@ -1,0 +1,61 @@
+-- Worked texts: document 01's sample line, a ring closed by -0.000, one that is open, numbers that are and are not taken.
+-- Assumes nothing.
+use mathlib.Core.Path.{_≡_, refl}
+use mathlib.Core.List.{[], _∷_}
+use lib.Ieee.{Float, ofBits, binary64, round, eq}
+use Rattle.wkt.specs.Words.{bytes}
+use Rattle.wkt.specs.Parse.{got, wrong}
+use Rattle.wkt.specs.Number.{number, unsigned, digitsOf, nearestTo}
+use Rattle.wkt.specs.Grammar.{point, scene, post, measure, postLine, pair, points, ring, polygon, polygons, textOf}
+use Rattle.wkt.specs.Answer.{textIn}
+
+abbrev zero : Float
+zero = ofBits binary64 0
+
+abbrev one : Float
+one = ofBits binary64 0x3ff0_0000_0000_0000
+
+abbrev tenth : Float
+tenth = ofBits binary64 0x3fb9_9999_9999_999a
+
+sample : textIn (bytes "POINT M (0 0 0.1)\n") ≡ got (scene (post zero zero tenth) []) []
+unfolding number unsigned digitsOf nearestTo measure postLine pair points ring polygon polygons textOf ofBits round
+sample = refl
+
+-- no text, no end of the line, two spaces, EMPTY
+nothing : textIn [] ≡ wrong
+unfolding number unsigned digitsOf nearestTo measure postLine pair points ring polygon polygons textOf ofBits round
+nothing = refl
+
+endless : textIn (bytes "POINT M (0 0 0.1)") ≡ wrong
+unfolding number unsigned digitsOf nearestTo measure postLine pair points ring polygon polygons textOf ofBits round
+endless = refl
+
+wide : textIn (bytes "POINT M (0  0 0.1)\n") ≡ wrong
+unfolding number unsigned digitsOf nearestTo measure postLine pair points ring polygon polygons textOf ofBits round
+wide = refl
+
+empty : textIn (bytes "POINT M EMPTY\n") ≡ wrong
+unfolding number unsigned digitsOf nearestTo measure postLine pair points ring polygon polygons textOf ofBits round
+empty = refl
+
+square : polygon 7 3 (bytes "POLYGON ((0 0, 1 0, 1 1, -0.000 0))\n") ≡ got (point zero zero ∷ point one zero ∷ point one one ∷ []) []
+unfolding number unsigned digitsOf nearestTo pair points ring polygon ofBits round eq
+square = refl
+
+apart : polygon 7 3 (bytes "POLYGON ((0 0, 1 0, 1 1, 0.001 0))\n") ≡ wrong
+unfolding number unsigned digitsOf nearestTo pair points ring polygon ofBits round eq
+apart = refl
+
+-- -12.5; -0 is plus zero; a plus sign, no digit after the point, none before it, eight digits, four decimals
+negative : number 7 3 (bytes "-12.5 x") ≡ got (ofBits binary64 0xc029_0000_0000_0000) (bytes " x")
+unfolding number unsigned digitsOf nearestTo ofBits round
+negative = refl
+
+unsigned-zero : number 7 3 (bytes "-0") ≡ got zero []
+unfolding number unsigned digitsOf nearestTo ofBits round
+unsigned-zero = refl
+
+not-taken : number 7 3 (bytes "+1") ∷ number 7 3 (bytes "1.") ∷ number 7 3 (bytes ".5") ∷ number 7 3 (bytes "12345678") ∷ number 7 3 (bytes "0.0001") ∷ [] ≡ wrong ∷ wrong ∷ wrong ∷ wrong ∷ wrong ∷ []
+unfolding number unsigned digitsOf nearestTo ofBits round
+not-taken = refl

@@ -1,0 +1,4 @@
+-- What `wkt_print` writes: a number in decimals, a polygon's line, a refusal's line.
+pub mod Decimal
+pub mod Lines
+pub mod Samples
