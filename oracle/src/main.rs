@@ -9,7 +9,11 @@
 mod angle;
 #[cfg(published)]
 mod geom;
+#[cfg(published)]
+mod grid;
 mod num;
+#[cfg(published)]
+mod probe;
 #[cfg(published)]
 mod published;
 #[cfg(published)]
@@ -57,6 +61,11 @@ const WITH_PUBLISHED: &[Module] = &[
         name: "geom",
         compare: geom::compare,
         bench: geom::bench,
+    },
+    Module {
+        name: "grid",
+        compare: grid::compare,
+        bench: grid::bench,
     },
     Module {
         name: "published",
@@ -143,7 +152,7 @@ fn sample(_: &[String]) -> ExitCode {
 fn bench(modules: &[&Module]) -> ExitCode {
     let calls = count(INPUTS as u64);
     println!("Timed beside {}, {}.", other_side(), processor());
-    println!("Nanoseconds per call, best of many runs of {calls} calls.");
+    println!("Nanoseconds per call, best of many runs of {calls} calls, fewer for the grid.");
     println!(
         "Throughput: calls that do not wait for each other. Latency: each waits for the last."
     );

@@ -153,6 +153,10 @@ fn seams([_, grid, scene, visibility]: &mut [Source; 4]) {
     grid.text += GRID_SEAMS;
     scene.text += SCENE_SEAMS;
     visibility.text += VISIBILITY_SEAMS;
+    grid.after(
+        "            let c = row as usize * self.cols + col as usize;\n",
+        "            crate::seam::enter(c);\n",
+    );
     scene.after(
         "        self.grid.traverse_ray(origin, dir, max_t, |items, _t_enter, t_exit| {\n",
         "            crate::seam::cell();\n",
@@ -279,6 +283,17 @@ pub const ENDLESS: usize = 4_000_000;
 
 thread_local! {
     static COUNTS: Cell<[usize; COUNTERS]> = const { Cell::new([0; COUNTERS]) };
+    static PLACE: Cell<usize> = const { Cell::new(0) };
+}
+
+/// Notes the cell that a walk enters, before its visitor is called.
+pub fn enter(cell: usize) {
+    PLACE.set(cell);
+}
+
+/// The cell that a walk entered last. A visitor may ask.
+pub fn place() -> usize {
+    PLACE.get()
 }
 
 pub fn reset() {

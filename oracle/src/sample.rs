@@ -7,6 +7,7 @@
 mod small;
 
 use crate::geom::{self, Group};
+use crate::grid;
 use crate::util::call::{Call, NAN};
 use crate::util::rng::SplitMix64;
 use std::collections::BTreeSet;
@@ -14,15 +15,75 @@ use std::collections::BTreeSet;
 /// Lines of each function of `geom`: some of each group, those outside the domain too.
 const LINES: usize = 100;
 
-/// A call and its inputs: the words of its arguments.
-struct Asked {
-    call: Call,
+/// Arguments and results in words, as they stand on a line.
+type Side = Box<dyn Fn(&[u64]) -> Vec<u64>>;
+
+/// How many of the words after the number are arguments, unless there are too few.
+type Length = Box<dyn Fn(&[u64]) -> Option<usize>>;
+
+/// A function under its number, and its inputs.
+pub struct Asked {
+    number: u64,
+    length: Length,
+    ours: Side,
+    rust: Side,
     inputs: Vec<Vec<u64>>,
+}
+
+impl Asked {
+    pub fn new(
+        number: u64,
+        length: impl Fn(&[u64]) -> Option<usize> + 'static,
+        ours: impl Fn(&[u64]) -> Vec<u64> + 'static,
+        rust: impl Fn(&[u64]) -> Vec<u64> + 'static,
+        inputs: Vec<Vec<u64>>,
+    ) -> Self {
+        Self {
+            number,
+            length: Box::new(length),
+            ours: Box::new(ours),
+            rust: Box::new(rust),
+            inputs,
+        }
+    }
+
+    /// On a line a list of points stands behind its count, which the call itself does not take.
+    fn of_call(call: Call, inputs: Vec<Vec<u64>>) -> Self {
+        let (fixed, points) = (call.arguments, call.points);
+        let length = move |words: &[u64]| {
+            if !points {
+                return Some(fixed);
+            }
+            let count = usize::try_from(*words.get(fixed)?).ok()?;
+            count.checked_add(fixed + 1)
+        };
+        let counted = |mut input: Vec<u64>| {
+            if points {
+                input.insert(fixed, (input.len() - fixed) as u64);
+            }
+            input
+        };
+        let plain = move |words: &[u64]| {
+            let mut words = words.to_vec();
+            if points {
+                words.remove(fixed);
+            }
+            words
+        };
+        Self::new(
+            call.number,
+            length,
+            move |words| (call.ours)(&plain(words)).words().to_vec(),
+            move |words| (call.rust)(&plain(words)).words().to_vec(),
+            inputs.into_iter().map(counted).collect(),
+        )
+    }
 }
 
 /// Writes the sample. Says whether ours answers as it has it.
 pub fn write(path: &str) -> Result<bool, String> {
-    let calls: Vec<Asked> = small::calls().into_iter().chain(plane()).collect();
+    let small = small::calls().into_iter();
+    let calls: Vec<Asked> = small.chain(plane()).chain(grid::asked()).collect();
     let text: String = calls.iter().map(lines).collect();
     std::fs::write(path, &text).map_err(|e| format!("{path}: {e}"))?;
     let read = std::fs::read_to_string(path).map_err(|e| format!("{path}: {e}"))?;
@@ -30,9 +91,9 @@ pub fn write(path: &str) -> Result<bool, String> {
 }
 
 fn plane() -> impl Iterator<Item = Asked> {
-    geom::rows().into_iter().map(|row| Asked {
-        inputs: some_of_each(&row.call, &[row.inside, row.outside].concat()),
-        call: row.call,
+    geom::rows().into_iter().map(|row| {
+        let inputs = some_of_each(&row.call, &[row.inside, row.outside].concat());
+        Asked::of_call(row.call, inputs)
     })
 }
 
@@ -54,16 +115,10 @@ fn argument(x: f64) -> u64 {
 }
 
 fn lines(asked: &Asked) -> String {
-    let call = &asked.call;
     let line = |input: &Vec<u64>| {
-        let (fixed, list) = input.split_at(call.arguments);
-        let mut words = vec![call.number];
-        words.extend(fixed);
-        if call.points {
-            words.push(list.len() as u64);
-        }
-        words.extend(list);
-        words.extend((call.rust)(input).words());
+        let mut words = vec![asked.number];
+        words.extend(input);
+        words.extend((asked.rust)(input));
         let words: Vec<String> = words.iter().map(|w| format!("{w:x}")).collect();
         words.join(" ") + "\n"
     };
@@ -80,10 +135,11 @@ fn replayed(text: &str, calls: &[Asked]) -> Result<bool, String> {
         let at = |why: &str| format!("line {}: {why}: {line}", i + 1);
         let words = words(line).ok_or_else(|| at("not words of hexadecimal digits"))?;
         let (number, rest) = words.split_first().ok_or_else(|| at("empty"))?;
-        let found = calls.iter().find(|a| a.call.number == *number);
-        let call = &found.ok_or_else(|| at("no such function"))?.call;
-        let (arguments, results) = cut(call, rest).ok_or_else(|| at("too short"))?;
-        if (call.ours)(&arguments).words() != results {
+        let found = calls.iter().find(|a| a.number == *number);
+        let asked = found.ok_or_else(|| at("no such function"))?;
+        let cut = (asked.length)(rest).and_then(|n| rest.split_at_checked(n));
+        let (arguments, results) = cut.ok_or_else(|| at("too short"))?;
+        if (asked.ours)(arguments) != results {
             differ += 1;
             println!("{}", at("ours differs"));
         }
@@ -108,15 +164,4 @@ fn words(line: &str) -> Option<Vec<u64>> {
         fits.then(|| u64::from_str_radix(w, 16).ok()).flatten()
     };
     line.split(' ').map(word).collect()
-}
-
-/// The arguments, without the count of a list of points, and the results.
-fn cut<'a>(call: &Call, words: &'a [u64]) -> Option<(Vec<u64>, &'a [u64])> {
-    let (fixed, rest) = words.split_at_checked(call.arguments)?;
-    if !call.points {
-        return Some((fixed.to_vec(), rest));
-    }
-    let (count, rest) = rest.split_first()?;
-    let (list, rest) = rest.split_at_checked(usize::try_from(*count).ok()?)?;
-    Some(([fixed, list].concat(), rest))
 }

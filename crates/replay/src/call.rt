@@ -1,4 +1,4 @@
-// The calls by number: a group of a hundred for each crate, in the order of the Rust. `oracle/src/sample.rs` has the same numbers.
+// The calls by number: a group of a hundred for each crate, in the order of the Rust. `oracle/src/sample/small.rs` and the `calls.rs` or `lines.rs` of each module have the same numbers.
 use crate::answer;
 use crate::answer::Answer;
 use crate::plane;

@@ -27,7 +27,7 @@ fn asked(
         ours,
         rust,
     };
-    Asked { call, inputs }
+    Asked::of_call(call, inputs)
 }
 
 pub fn calls() -> Vec<Asked> {
