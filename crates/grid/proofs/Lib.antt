@@ -1,5 +1,6 @@
 -- Laws of the grid, and the theorems on the stamps and the box query.
 pub mod Ranges
+pub mod Direct
 pub mod Stamping
 pub mod Rows
 pub mod RowsLoop

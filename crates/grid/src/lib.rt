@@ -7,7 +7,8 @@ ghost use mathlib.Core.Path.{_≡_};
 ghost use Prim.Native.Nat.{suc, _+_, _-_, _^_, _≤_, _<_, min};
 ghost use lib.ListN.{length, set, replicate};
 ghost use lib.Seq.{sets};
-ghost use Rattle.grid.specs.Range.{dimsOf, columnsOf, cellAt, cellIndex, rangeBy, rangeOf, InGrid};
+ghost use Rattle.num.specs.Num.{floorOf};
+ghost use Rattle.grid.specs.Range.{dimsOf, columnsOf, cellIndex, rangeBy, rangeOf, InGrid};
 ghost use Rattle.grid.specs.Stamps.{epochAfter, marksBegun, unseen, stamped, firsts};
 ghost use Rattle.grid.specs.Entries.{cellOf, entriesIn, Sound, RowIn, rowPart, tallyOf};
 ghost use Rattle.grid.specs.Query.{Is, outcome, outcomeBy, itemsAt};
@@ -50,30 +51,29 @@ pub fn columns(extent: f64, cell: f64) -> u64
     if n < 18446744073709551615 { n + 1 } else { n }
 }
 
-// The last of n columns or rows. The Rust has none of zero columns; ours then says 0.
-fn last_of(n: u32) -> u32
-    ensures { λ r. ⌜ r ≡ n - 1 ⌝ }
+// At least one column or row, so that there is a last one. The Rust has none of zero columns; ours then says 0.
+fn at_least_one(n: u32) -> u32
+    ensures { λ r. ⌜ r ≡ n - 1 + 1 ⌝ }
 {
-    if n == 0 { 0 } else { n - 1 }
+    if n == 0 { 1 } else { n }
 }
 
-// A coordinate's column or row, before it is held to the grid.
-fn cell_at(x: f64, origin: f64, inv: f64) -> f64
-    ensures { λ r. ⌜ r ≡ cellAt x origin inv ⌝ }
+// The Rust's `y.floor().clamp(0.0, (n - 1) as f64) as usize`, by one cut (proofs/Direct.antt).
+fn cell_index(y: f64, n: u32) -> u32
+    requires { ⌜ 0 < n ⌝ }
+    ensures { λ r. ⌜ r ≡ cellIndex (floorOf y) (n - 1) ⌝ }
 {
-    num::floor((x - origin) * inv)
+    if y >= n as f64 {
+        return n - 1;
+    }
+    num::to_u64(y) as u32
 }
 
-// The Rust's `x.clamp(0.0, last as f64) as usize`.
-fn cell_index(x: f64, last: u32) -> u32
-    ensures { λ r. ⌜ r ≡ cellIndex x last ⌝ }
-{
-    num::to_u64(num::clamp(x, 0.0, last as f64)) as u32
-}
-
-// The range of the four floors, in a grid whose last column is mc and whose last row is mr.
-fn held(mc: u32, mr: u32, empty: bool, c0: f64, r0: f64, c1: f64, r1: f64) -> Range
-    ensures { λ r. ⌜ r ≡ rangeBy mc mr empty c0 r0 c1 r1 ⌝ }
+// The range of the four edges, in a grid of nc columns and nr rows. The Rust compares their floors: floor(y) > n - 1 exactly if y >= n,
+// and floor(y) < 0 exactly if y < 0, so no floor is worked out here.
+fn held(nc: u32, nr: u32, empty: bool, c0: f64, r0: f64, c1: f64, r1: f64) -> Range
+    requires { ⌜ (0 < nc) × (0 < nr) ⌝ }
+    ensures { λ r. ⌜ r ≡ rangeBy (nc - 1) (nr - 1) empty (floorOf c0) (floorOf r0) (floorOf c1) (floorOf r1) ⌝ }
 {
     if c1 < 0.0 {
         return Range::Nothing;
@@ -81,20 +81,20 @@ fn held(mc: u32, mr: u32, empty: bool, c0: f64, r0: f64, c1: f64, r1: f64) -> Ra
     if r1 < 0.0 {
         return Range::Nothing;
     }
-    if c0 > mc as f64 {
+    if c0 >= nc as f64 {
         return Range::Nothing;
     }
-    if r0 > mr as f64 {
+    if r0 >= nr as f64 {
         return Range::Nothing;
     }
     if empty {
         return Range::Nothing;
     }
     Range::Cells(CellRange {
-        c0: cell_index(c0, mc),
-        r0: cell_index(r0, mr),
-        c1: cell_index(c1, mc),
-        r1: cell_index(r1, mr),
+        c0: cell_index(c0, nc),
+        r0: cell_index(r0, nr),
+        c1: cell_index(c1, nc),
+        r1: cell_index(r1, nr),
     })
 }
 
@@ -113,18 +113,14 @@ impl Grid {
     pub fn cell_range(self, b: Aabb) -> Range
         ensures { λ r. ⌜ r ≡ rangeOf self b ⌝ }
     {
-        let c0 = cell_at(b.min.x, self.origin.x, self.inv_cell);
-        let c1 = cell_at(b.max.x, self.origin.x, self.inv_cell);
-        let r0 = cell_at(b.min.y, self.origin.y, self.inv_cell);
-        let r1 = cell_at(b.max.y, self.origin.y, self.inv_cell);
         held(
-            last_of(self.cols),
-            last_of(self.rows),
+            at_least_one(self.cols),
+            at_least_one(self.rows),
             b.is_empty(),
-            c0,
-            r0,
-            c1,
-            r1,
+            (b.min.x - self.origin.x) * self.inv_cell,
+            (b.min.y - self.origin.y) * self.inv_cell,
+            (b.max.x - self.origin.x) * self.inv_cell,
+            (b.max.y - self.origin.y) * self.inv_cell,
         )
     }
 }

@@ -18,7 +18,7 @@ fn pattern(x: f64) -> u64 {
     num::to_bits(x + 0.0)
 }
 
-fn wide(x: u32) -> u64 {
+pub fn wide(x: u32) -> u64 {
     x as u64
 }
 

@@ -1,6 +1,7 @@
 // The calls by number: a group of a hundred for each crate, in the order of the Rust. `oracle/src/sample/small.rs` and the `calls.rs` or `lines.rs` of each module have the same numbers.
 use crate::answer;
 use crate::answer::Answer;
+use crate::inner;
 use crate::plane;
 use crate::words::float;
 use crate::words::word;
@@ -89,5 +90,8 @@ pub fn answer(w: &[u64], n: usize, out: &mut [u64]) -> usize {
         return 0;
     }
     let f = word(w, 0);
+    if 500 < f {
+        return inner::answer_inner(f, w, out);
+    }
     answer::store(out, answer_numbers(f, w))
 }

@@ -62,7 +62,7 @@ fn longer(w: u64, d: u64) -> u64 {
 }
 
 // w after the first n words; how many there are then. A full list stays as it is.
-fn push(out: &mut [u64], n: usize, w: u64) -> usize {
+pub fn push(out: &mut [u64], n: usize, w: u64) -> usize {
     if n < out.len() {
         out[n] = w;
         return n + 1;

@@ -4,6 +4,7 @@
 // `oracle/run sample` writes the input. The program prints how many lines it read, over how many functions, and how many differ.
 mod answer;
 mod call;
+mod inner;
 mod input;
 mod plane;
 mod words;

@@ -116,8 +116,8 @@ fn answer_circle(f: u64, a: f64, b: f64, c: f64, d: f64, e: f64, g: f64, h: f64)
 }
 
 // Up to 64 numbers of w from `first` on.
-fn filled(w: &[u64], first: usize) -> [f64; 64]
-    requires { ⌜ first < 8 ⌝ }
+pub fn filled(w: &[u64], first: usize) -> [f64; 64]
+    requires { ⌜ first < 16 ⌝ }
 {
     let mut points = [0.0; 64];
     let mut i: usize = 0;

@@ -1,0 +1,3 @@
+-- The laws behind the probe.
+pub mod Answers
+pub mod Walking

@@ -1,0 +1,2 @@
+-- What the numbers of the probe stand for.
+pub mod Numbers

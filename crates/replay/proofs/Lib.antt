@@ -1,0 +1,2 @@
+-- The laws behind the replay.
+pub mod SoundTables
