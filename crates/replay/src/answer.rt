@@ -7,7 +7,7 @@ pub struct Answer {
 }
 
 // No such function.
-pub fn nothing() -> Answer {
+pub(crate) fn nothing() -> Answer {
     Answer {
         count: 0,
         words: [0; 5],
@@ -18,33 +18,33 @@ fn pattern(x: f64) -> u64 {
     num::to_bits(x + 0.0)
 }
 
-pub fn wide(x: u32) -> u64 {
+pub(crate) fn wide(x: u32) -> u64 {
     x as u64
 }
 
-pub fn word(w: u64) -> Answer {
+pub(crate) fn word(w: u64) -> Answer {
     Answer {
         count: 1,
         words: [w, 0, 0, 0, 0],
     }
 }
 
-pub fn number(n: u32) -> Answer {
+pub(crate) fn number(n: u32) -> Answer {
     word(wide(n))
 }
 
-pub fn float(x: f64) -> Answer {
+pub(crate) fn float(x: f64) -> Answer {
     word(pattern(x))
 }
 
-pub fn floats2(v: [f64; 2]) -> Answer {
+pub(crate) fn floats2(v: [f64; 2]) -> Answer {
     Answer {
         count: 2,
         words: [pattern(v[0]), pattern(v[1]), 0, 0, 0],
     }
 }
 
-pub fn floats4(v: [f64; 4]) -> Answer {
+pub(crate) fn floats4(v: [f64; 4]) -> Answer {
     Answer {
         count: 4,
         words: [
@@ -58,7 +58,7 @@ pub fn floats4(v: [f64; 4]) -> Answer {
 }
 
 // A word and then another.
-pub fn both(v: u64, w: u64) -> Answer {
+pub(crate) fn both(v: u64, w: u64) -> Answer {
     Answer {
         count: 2,
         words: [v, w, 0, 0, 0],
@@ -66,18 +66,18 @@ pub fn both(v: u64, w: u64) -> Answer {
 }
 
 // A number and then floats.
-pub fn number1(n: u32, x: f64) -> Answer {
+pub(crate) fn number1(n: u32, x: f64) -> Answer {
     both(wide(n), pattern(x))
 }
 
-pub fn number2(n: u32, v: [f64; 2]) -> Answer {
+pub(crate) fn number2(n: u32, v: [f64; 2]) -> Answer {
     Answer {
         count: 3,
         words: [wide(n), pattern(v[0]), pattern(v[1]), 0, 0],
     }
 }
 
-pub fn number4(n: u32, v: [f64; 4]) -> Answer {
+pub(crate) fn number4(n: u32, v: [f64; 4]) -> Answer {
     Answer {
         count: 5,
         words: [
@@ -91,12 +91,12 @@ pub fn number4(n: u32, v: [f64; 4]) -> Answer {
 }
 
 // A draw, as a float, and the state after it.
-pub fn float_state(x: f64, state: u64) -> Answer {
+pub(crate) fn float_state(x: f64, state: u64) -> Answer {
     both(pattern(x), state)
 }
 
 // The words of an answer into out; how many there are.
-pub fn store(out: &mut [u64], a: Answer) -> usize {
+pub(crate) fn store(out: &mut [u64], a: Answer) -> usize {
     let words = a.words;
     let mut i: usize = 0;
     while i < 5 {

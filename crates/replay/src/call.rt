@@ -85,7 +85,7 @@ fn answer_numbers(f: u64, w: &[u64]) -> Answer {
 }
 
 // The results of the call that the first n words of w name, into out; how many there are, 0 where there is no such function.
-pub fn answer(w: &[u64], n: usize, out: &mut [u64]) -> usize {
+pub(crate) fn answer(w: &[u64], n: usize, out: &mut [u64]) -> usize {
     if n == 0 {
         return 0;
     }

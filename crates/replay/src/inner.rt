@@ -277,7 +277,7 @@ fn answer_cells(w: &[u64], out: &mut [u64]) -> usize {
     push_list(&mut *out, at, &cells, n)
 }
 
-pub fn answer_inner(f: u64, w: &[u64], out: &mut [u64]) -> usize {
+pub(crate) fn answer_inner(f: u64, w: &[u64], out: &mut [u64]) -> usize {
     if f == 501 {
         return answer::store(
             out,

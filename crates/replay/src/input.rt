@@ -62,7 +62,7 @@ fn longer(w: u64, d: u64) -> u64 {
 }
 
 // w after the first n words; how many there are then. A full list stays as it is.
-pub fn push(out: &mut [u64], n: usize, w: u64) -> usize {
+pub(crate) fn push(out: &mut [u64], n: usize, w: u64) -> usize {
     if n < out.len() {
         out[n] = w;
         return n + 1;
@@ -78,7 +78,7 @@ pub struct Line {
     pub len: usize,
 }
 
-pub fn read_line(chunk: &mut [u8], from: usize, to: usize, out: &mut [u64]) -> Line {
+pub(crate) fn read_line(chunk: &mut [u8], from: usize, to: usize, out: &mut [u64]) -> Line {
     let mut at = from;
     let mut len = to;
     let mut n: usize = 0;

@@ -116,7 +116,7 @@ fn answer_circle(f: u64, a: f64, b: f64, c: f64, d: f64, e: f64, g: f64, h: f64)
 }
 
 // Up to 64 numbers of w from `first` on.
-pub fn filled(w: &[u64], first: usize) -> [f64; 64]
+pub(crate) fn filled(w: &[u64], first: usize) -> [f64; 64]
     requires { ⌜ first < 16 ⌝ }
 {
     let mut points = [0.0; 64];
@@ -183,7 +183,7 @@ fn answer_floats(f: u64, w: &[u64]) -> Answer {
     answer_circle(f, a, b, c, d, e, g, h)
 }
 
-pub fn answer_plane(f: u64, w: &[u64]) -> Answer {
+pub(crate) fn answer_plane(f: u64, w: &[u64]) -> Answer {
     if f == 448 {
         return answer_points(f, w, 3);
     }
