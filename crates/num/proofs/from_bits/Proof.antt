@@ -1,21 +1,17 @@
+-- `num::from_bits` meets its contract. Assumes nothing.
 use Rattle.num.proofs.BitLaws.{past-infinity, no-nan}
 use lib.Ieee.{div, ofBits}
 use borrow.Author.Needs.{needs}
 use Rattle.num.proofs.from_bits.Statement.{statement}
 use Rattle.num.proofs.from_bits.Tie as tie
-use Rattle.num.proofs.from_bits.Reads as reads
-use Rattle.num.proofs.from_bits.Lts as lts
 
--- src/lib.rt:204:9
 returns : tie.Need-returns
 unfolding div ofBits
 returns c = past-infinity (c .before .args .b) (c .if1 .taken)
 
--- src/lib.rt:206:5
 float-from-bits-result : tie.Need-float-from-bits-result
 float-from-bits-result c = no-nan (c .before .args .b) (c .if1 .left)
 
--- src/lib.rt:200:1
 returns-2 : tie.Need-returns-2
 returns-2 c = search needs
 
