@@ -1,5 +1,5 @@
--- Sample P7 of document 01, and the first five words from the seed 1234567: the published reference values of splitmix64
--- (Rosetta Code, "Pseudo-random numbers/Splitmix64"). Assumes nothing.
+-- Sample P7 of document 01, and the first five words from the seed 1234567, as a second
+-- computation of the Rust's lines, by arithmetic on whole numbers, gives them. Assumes nothing.
 use Prim.Native.Nat.{ℕ, zero, suc}
 use mathlib.Core.Path.{_≡_, refl}
 use mathlib.Core.List.{List, [], _∷_}
