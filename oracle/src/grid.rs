@@ -5,8 +5,8 @@
 
 mod bench;
 mod lines;
-mod questions;
-mod sites;
+pub mod questions;
+pub mod sites;
 
 pub use bench::bench;
 pub use lines::asked;
@@ -26,7 +26,7 @@ pub fn compare() -> bool {
     for (i, group) in groups.iter().enumerate() {
         let r = &mut SplitMix64::new(1_000 + i as u64);
         for _ in 0..group.sites {
-            let site = (group.make)(r);
+            let site = group.make(r);
             held.site(r, &site);
         }
     }

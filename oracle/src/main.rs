@@ -11,6 +11,8 @@ mod angle;
 mod geom;
 #[cfg(published)]
 mod grid;
+#[cfg(published)]
+mod lent;
 mod num;
 #[cfg(published)]
 mod probe;
@@ -20,6 +22,10 @@ mod published;
 mod rng;
 #[cfg(published)]
 mod sample;
+#[cfg(published)]
+mod scene;
+#[cfg(published)]
+mod sites;
 mod util;
 
 use std::ffi::{CStr, c_char};
@@ -66,6 +72,11 @@ const WITH_PUBLISHED: &[Module] = &[
         name: "grid",
         compare: grid::compare,
         bench: grid::bench,
+    },
+    Module {
+        name: "scene",
+        compare: scene::compare,
+        bench: scene::bench,
     },
     Module {
         name: "published",

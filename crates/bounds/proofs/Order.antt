@@ -11,7 +11,7 @@ use lib.Dec.{T, ltb, eqb, ltb→lt, nltb→le, eqb→eq, eqb-refl}
 use lib.Ieee.{Float, nan, inf, fin, up, down, below, level, lt, eq, le, isNan}
 use lib.Ieee.Fits.{down-pos, and-i, and-l, and-r, eq→eqb}
 use lib.Ieee.Exact.{HasValue}
-use Rattle.num.specs.Num.{minOf, maxOf}
+use Rattle.num.specs.Num.{minOf, maxOf, clampOf}
 
 -- ---- ±a ≤ ±b
 abbrev pub Le : Bool → ℕ → Bool → ℕ → Type 0
@@ -228,3 +228,13 @@ max-ge-left x y p = go (lt x y) (isNan x) (lt-le x y) p
     go true c f q = f tt
     go false true f q = absurd q
     go false false f q = le-same x p
+
+-- a number held to a stretch lies in it
+pub clamp-between : (x lo hi : Float) → T (not (isNan x)) → T (le lo hi) → T (le lo (clampOf x lo hi)) × T (le (clampOf x lo hi) hi)
+unfolding clampOf
+clamp-between x lo hi p l = go (lt x lo) (lt hi x) (not-lt lo x (le-left lo hi l) p) (not-lt x hi p (le-right lo hi l))
+  where
+    go : (b c : Bool) → (T (not b) → T (le lo x)) → (T (not c) → T (le x hi)) → T (le lo (cond b lo (cond c hi x))) × T (le (cond b lo (cond c hi x)) hi)
+    go true c f g = (le-same lo (le-left lo hi l), l)
+    go false true f g = (l, le-same hi (le-right lo hi l))
+    go false false f g = (f tt, g tt)

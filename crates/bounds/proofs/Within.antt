@@ -16,7 +16,7 @@ use lib.Ieee.Bits.{cond-no}
 use lib.Ieee.Exact.{HasValue}
 use lib.Ieee.Order.{round-mono}
 use lib.Ieee.Back.{round-whole}
-use Rattle.num.specs.Num.{downTo, floorOf, minOf, maxOf}
+use Rattle.num.specs.Num.{downTo, floorOf, ceilOf, minOf, maxOf}
 use Rattle.num.specs.Root.{rootDown, sqrtOf}
 use Rattle.num.proofs.Whole.{neg-round}
 use Rattle.num.proofs.RootLaws.{root-is}
@@ -267,6 +267,31 @@ div-within a k q (fin s m e) (fin false n d) l K S h i =
     (le-trans (mul-le-mul-right (down e) (mul-le-mul-left q i)) (le-of-eq (mul-assoc q (n * up d) (down e))))) in
     subst (λ (z : Float). Within q z) (sym (div-is k s m e n d K i)) (round-within (unlike s false) (m * up e * down d) (n * up d * down e) q (mul-pos p (down-pos e)) S r)
 
+some-left : (x c d : ℕ) → 0 < d → d ≤ x * c → 0 < x
+some-left zero c d D h = absurd (not-le-of-lt D (le-trans h (le-of-eq (zero-mul c))))
+some-left (suc x) c d D h = zero-lt-suc x
+
+-- x / y for |x| ≤ a and y ≥ 1 / c is q at most, where a * c ≤ q
+pub div-share : (a c q : ℕ) (x y l : Float) → HasValue l false 1 c → a * c ≤ q → Held q → Within a x → T (le l y) → Within q (div binary64 x y)
+unfolding div le
+div-share a c q nan y l v g S h i = absurd h
+div-share a c q (inf s) y l v g S h i = absurd h
+div-share a c q (fin s m e) nan (fin t k b) v g S h i = absurd i
+div-share a c q (fin s m e) (inf true) (fin t k b) v g S h i = absurd i
+div-share a c q (fin s m e) (inf false) (fin t k b) v g S h i = zero-le
+div-share a c q (fin s m e) (fin true n d) l v g S h i =
+    absurd (no-minus 1 (down d) (n * up d * c) (mul-pos one-pos (down-pos d)) (value-le l (fin true n d) false 1 c true (n * up d) (down d) v (refl, refl) i))
+div-share a c q (fin s m e) (fin false n d) l v g S h i =
+    let w : down d ≤ n * up d * c = le-trans (le-of-eq (sym (one-mul (down d)))) (value-le l (fin false n d) false 1 c false (n * up d) (down d) v (refl, refl) i) in
+    let p : 0 < n * up d = some-left (n * up d) c (down d) (down-pos d) w in
+    let r : m * up e * down d ≤ q * (n * up d * down e) =
+    le-trans (mul-le-mul h w)
+    (le-trans (le-of-eq (ap (λ (z : ℕ). a * down e * z) (mul-comm (n * up d) c) ∙ mul-mul-mul-comm a (down e) c (n * up d) ∙ ap (λ (z : ℕ). a * c * z) (mul-comm (down e) (n * up d))))
+    (mul-le-mul-right (n * up d * down e) g)) in
+    subst (λ (z : Float). Within q z)
+    (sym (cond-no (eqb n 0) (cond (eqb m 0) nan (inf (unlike s false))) (round binary64 (unlike s false) (m * up e * down d) (n * up d * down e)) (first-pos n (up d) 1 one-pos p)))
+    (round-within (unlike s false) (m * up e * down d) (n * up d * down e) q (mul-pos p (down-pos e)) S r)
+
 -- ---- the root: NaN below zero
 le-of-squares : (a b : ℕ) → a * a ≤ b * b → a ≤ b
 le-of-squares a b h = on-test (leb a b) (leb→le a b) (λ t. absurd (no (nleb→lt a b t)))
@@ -310,6 +335,12 @@ unfolding floorOf
 floor-within b nan S h = h
 floor-within b (inf s) S h = h
 floor-within b (fin s m e) S h = round-within s (downTo s (m * up e) (down e)) 1 b one-pos S (le-trans (down-le s (m * up e) (down e) b (down-pos e) h) (le-of-eq (sym (mul-one b))))
+
+pub ceil-within : (b : ℕ) (x : Float) → Held b → Within b x → Within b (ceilOf x)
+unfolding ceilOf
+ceil-within b nan S h = h
+ceil-within b (inf s) S h = h
+ceil-within b (fin s m e) S h = round-within s (downTo (not s) (m * up e) (down e)) 1 b one-pos S (le-trans (down-le (not s) (m * up e) (down e) b (down-pos e) h) (le-of-eq (sym (mul-one b))))
 
 -- ---- min, max, clamp
 pub min-within : (b : ℕ) (x y : Float) → Within b x → Within b y → Within b (minOf x y)

@@ -1,4 +1,3 @@
--- Laws of lists made by a rule, the steps of the two loops, and the theorem: SoundHead.
-pub mod Listed
+-- The steps of the two loops, and the theorem: SoundHead.
 pub mod Steps
 pub mod SoundHead

@@ -17,7 +17,7 @@ use borrow.Author.Tests.{ltb-false, eqb-false}
 use Rattle.lists.specs.Lists.{consIf, listed}
 use Rattle.lists.specs.Members.{All}
 use Rattle.lists.proofs.Members.{all-at}
-use Rattle.lists.proofs.Joined.{length-listed}
+use Rattle.lists.proofs.Joined.{all-listed, listed-ext, length-listed}
 use Rattle.num.specs.Ops.{_⊕_, _⊗_, _⊘_, zeroF, oneF}
 use Rattle.num.specs.Num.{floorOf, minOf, maxOf}
 use Rattle.num.specs.Root.{sqrtOf}
@@ -30,12 +30,12 @@ use Rattle.bounds.specs.Domain.{inDomain, inSize}
 use Rattle.bounds.proofs.Order.{le-left, le-right, trans, eq-same, min-le-left, max-ge-left}
 use Rattle.bounds.proofs.Within.{held, held-small, one-pos, not-nan, below-infinity, wider, or-nan-wider, le-of-least, value-within, value-least, count-least, sub-within, sum-within, mul-within, div-within, sqrt-within, floor-within, min-within, max-within, max-or-nan, min-first, max-first, max-least, cast-within}
 use Rattle.bounds.proofs.Domain.{zero-is, one-is, domain-within, within-domain, size-least, size-within}
+use Rattle.grid.specs.Boxes.{boxAt}
 use Rattle.grid.specs.Range.{columnsOf, countF}
 use Rattle.extent.specs.declared.Sides.{Sides}
-use Rattle.extent.specs.Boxes.{polygonBoxOf, boxCount, boxAt, boxesOf}
+use Rattle.extent.specs.Boxes.{polygonBoxOf, boxCount, boxesOf}
 use Rattle.extent.specs.Extent.{nonEmpty, boundsOf, sideOf, sidesOf, cellsCap, cellFrom, cellSizeOf, colsOf, rowsOf}
 use Rattle.extent.specs.Sound.{BoxIn, Placed, Given, SoundHead}
-use Rattle.extent.proofs.Listed.{all-listed, listed-ext}
 use Rattle.extent.proofs.Steps.{sides-few}
 
 cap-is : HasValue cellsCap false 4000000 1
@@ -78,9 +78,10 @@ none-placed : Placed emptyBox
 unfolding isEmptyOf le
 none-placed e = absurd (true≢false e)
 
-pub polygon-placed : (pts : List Float) → All (λ x. inDomain x ≡ true) pts → Placed (polygonBoxOf pts)
-unfolding polygonBoxOf fromPointsOf
-polygon-placed pts h = go (ltb (corners pts) 3) (ltb-false (corners pts) 3)
+-- the smallest box around three points or more lies in the domain
+pub polygon-in : (pts : List Float) → All (λ x. inDomain x ≡ true) pts → 3 ≤ corners pts → BoxIn 1000000 (fromPointsOf pts)
+unfolding fromPointsOf
+polygon-in pts h = in-it (corners pts) refl
   where
     in-it : (n : ℕ) → n ≡ corners pts → 3 ≤ n → BoxIn 1000000 (boxUpTo pts n)
     in-it zero e l = absurd (no l)
@@ -89,9 +90,13 @@ polygon-placed pts h = go (ltb (corners pts) 3) (ltb-false (corners pts) 3)
         no l = omega arith
     in-it (suc n) e l = up-to-in 1000000 pts n (le-of-eq e) (λ i k. domain-within (getD pts i nan) (all-at (λ x. inDomain x ≡ true) pts i nan h k))
 
-    go : (q : Bool) → (q ≡ false → 3 ≤ corners pts) → Placed (cond q emptyBox (boxUpTo pts (corners pts)))
+pub polygon-placed : (pts : List Float) → All (λ x. inDomain x ≡ true) pts → Placed (polygonBoxOf pts)
+unfolding polygonBoxOf
+polygon-placed pts h = go (ltb (corners pts) 3) (ltb-false (corners pts) 3)
+  where
+    go : (q : Bool) → (q ≡ false → 3 ≤ corners pts) → Placed (cond q emptyBox (fromPointsOf pts))
     go true f = none-placed
-    go false f = λ e. in-it (corners pts) refl (f refl)
+    go false f = λ e. polygon-in pts h (f refl)
 
 -- ---- the boxes that are not empty lie in the domain
 kept-in : (bs : List Aabb) → All Placed bs → All (BoxIn 1000000) (nonEmpty bs)

@@ -10,14 +10,13 @@ use mathlib.Core.List.{List, [], _∷_, _++_, foldl, foldl-append}
 use lib.ListN.{length, length-append}
 use lib.Ieee.{Float}
 use Rattle.lists.specs.Lists.{consIf, listed}
-use Rattle.lists.proofs.Counting.{length-filter-le}
+use Rattle.lists.proofs.Counting.{filter-append, length-filter-le}
 use Rattle.num.specs.Ops.{_⊕_, zeroF}
 use Rattle.geom.specs.declared.Aabb.{Aabb}
 use Rattle.geom.specs.Vec.{vec, origin}
 use Rattle.geom.specs.Box.{box, unionOf, isEmptyOf}
+use Rattle.grid.specs.Boxes.{boxAt}
 use Rattle.extent.specs.declared.Sides.{Sides}
-use Rattle.extent.proofs.Listed.{filter-append}
-use Rattle.extent.specs.Boxes.{boxAt}
 use Rattle.extent.specs.Extent.{nonEmpty, boundsOf, joinBoxOf, sideOf, sidesOf, addSideOf}
 
 -- a step over one box more

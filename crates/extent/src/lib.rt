@@ -5,9 +5,8 @@ use geom::Aabb;
 use geom::Vec2;
 ghost use mathlib.Core.Path.{_≡_};
 ghost use Prim.Native.Nat.{_+_, _^_, _<_, min};
-ghost use lib.ListN.{length};
-ghost use Rattle.extent.specs.Boxes.{polygonBoxOf, boxCount, boxAt, boxesOf};
-ghost use Rattle.extent.specs.Extent.{boundsOf, joinBoxOf, sideOf, sidesOf, addSideOf, cellFrom, cellSizeOf};
+ghost use Rattle.extent.specs.Boxes.{polygonBoxOf, boxCount, boxesOf};
+ghost use Rattle.extent.specs.Extent.{boundsOf, joinBoxOf, sideOf, addSideOf, cellFrom, cellSizeOf};
 
 // The box that a polygon's points give: a polygon of fewer than three has the empty one, so that no query ever meets it.
 pub fn polygon_box(points: &[f64]) -> Aabb
@@ -21,24 +20,6 @@ pub fn polygon_box(points: &[f64]) -> Aabb
 
 // How many numbers a box takes in the table of boxes.
 const STRIDE: usize = 4;
-
-// The box of the polygon k.
-pub fn box_at(boxes: &[f64], k: usize) -> Aabb
-    requires { ⌜ k < boxCount (now boxes) ⌝ }
-    ensures { λ r. ⌜ r ≡ boxAt (now (boxes .entry)) k ⌝ }
-{
-    let at = k * STRIDE;
-    Aabb {
-        min: Vec2 {
-            x: boxes[at],
-            y: boxes[at + 1],
-        },
-        max: Vec2 {
-            x: boxes[at + 2],
-            y: boxes[at + 3],
-        },
-    }
-}
 
 // How many boxes there are: n, or as many as the table has whole.
 fn count(boxes: &[f64], n: usize) -> usize
@@ -72,7 +53,7 @@ pub fn bounds_of(width: f64, height: f64, boxes: &[f64], n: usize) -> Aabb
     };
     let mut i = 0;
     while i < m {
-        b = join_box(b, box_at(boxes, i));
+        b = join_box(b, grid::box_at(boxes, i));
         i += 1;
     }
     b
@@ -128,7 +109,7 @@ pub fn pick_cell_size(boxes: &[f64], n: usize, bounds: Aabb) -> f64
     let mut s = Sides { sum: 0.0, count: 0 };
     let mut i = 0;
     while i < m {
-        s = add_side(s, box_at(boxes, i));
+        s = add_side(s, grid::box_at(boxes, i));
         i += 1;
     }
     cell_from(s, bounds)

@@ -127,7 +127,7 @@ impl Vec2 {
 }
 
 // Point i of a list of points.
-fn corner(points: &[f64], i: usize) -> Vec2
+pub fn corner(points: &[f64], i: usize) -> Vec2
     requires { ⌜ i < corners (now points) ⌝ }
     ensures { λ r. ⌜ r ≡ cornerOf (now (points .entry)) i ⌝ }
 {

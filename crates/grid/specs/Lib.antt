@@ -1,4 +1,5 @@
 -- What the functions of `grid` mean.
+pub mod Boxes
 pub mod Range
 pub mod Stamps
 pub mod Entries

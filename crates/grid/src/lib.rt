@@ -1,6 +1,6 @@
 // The uniform grid over a site, its questions and the stamps: `grid.rs` of the Rust without the building of its tables (crate `tables`)
 // and the ray walk (crate `walk`). The tables are lent as number lists; a visitor becomes a list writer. Document 01, "Site and grid".
-// Meanings: specs/Range.antt (columns and cell ranges), specs/Stamps.antt, specs/Entries.antt (what the tables say), specs/Query.antt.
+// Meanings: specs/Boxes.antt (the list of boxes), specs/Range.antt (columns and cell ranges), specs/Stamps.antt, specs/Entries.antt (what the tables say), specs/Query.antt.
 use geom::Aabb;
 use geom::Vec2;
 ghost use mathlib.Core.Path.{_≡_};
@@ -8,6 +8,7 @@ ghost use Prim.Native.Nat.{suc, _+_, _-_, _^_, _≤_, _<_, min};
 ghost use lib.ListN.{length, set, replicate};
 ghost use lib.Seq.{sets};
 ghost use Rattle.num.specs.Num.{floorOf};
+ghost use Rattle.grid.specs.Boxes.{boxFrom, boxAt};
 ghost use Rattle.grid.specs.Range.{dimsOf, columnsOf, cellIndex, rangeBy, rangeOf, InGrid};
 ghost use Rattle.grid.specs.Stamps.{epochAfter, marksBegun, unseen, stamped, firsts};
 ghost use Rattle.grid.specs.Entries.{cellOf, entriesIn, Sound, RowIn, rowPart, tallyOf};
@@ -40,6 +41,36 @@ pub struct CellRange {
 pub enum Range {
     Cells(CellRange),
     Nothing,
+}
+
+// How many numbers a box takes in a list of boxes.
+const BOX: usize = 4;
+
+// The box whose numbers stand from the place `at` on.
+fn box_from(boxes: &[f64], at: usize) -> Aabb
+    requires { ⌜ at + 3 < 2 ^ 64 ⌝ }
+    ensures { λ r. ⌜ r ≡ boxFrom (now (boxes .entry)) at ⌝ }
+{
+    Aabb {
+        min: Vec2 {
+            x: lists::at64(boxes, at),
+            y: lists::at64(boxes, at + 1),
+        },
+        max: Vec2 {
+            x: lists::at64(boxes, at + 2),
+            y: lists::at64(boxes, at + 3),
+        },
+    }
+}
+
+// The box k of a list of boxes. Past the list's end its numbers are NaN.
+pub fn box_at(boxes: &[f64], k: usize) -> Aabb
+    ensures { λ r. ⌜ r ≡ boxAt (now (boxes .entry)) k ⌝ }
+{
+    if boxes.len() / BOX < k {
+        return box_from(&boxes[0..0], 0);
+    }
+    box_from(boxes, k * BOX)
 }
 
 // How many columns cover a width, or rows a height, with cells of size `cell`. The Rust's `max(1)` changes nothing: one is added first.

@@ -100,6 +100,14 @@ module _ {A : Type 0} where
   length-filter-le p [] = omega arith
   length-filter-le p (x ∷ l) = omega (arith, length-consIf (p x) x (filter p l), length-filter-le p l, bit-le (p x))
 
+  pub filter-append : (p : A → Bool) (xs ys : List A) → filter p (xs ++ ys) ≡ filter p xs ++ filter p ys
+  filter-append p [] ys = refl
+  filter-append p (x ∷ xs) ys = go (p x) (filter p (xs ++ ys)) (filter p xs) (filter-append p xs ys)
+    where
+      go : (t : Bool) (all front : List A) → all ≡ front ++ filter p ys → consIf t x all ≡ consIf t x front ++ filter p ys
+      go true all front e = ap (λ (l : List A). x ∷ l) e
+      go false all front e = e
+
   pub filter-ext : (p q : A → Bool) (l : List A) → All (λ x. p x ≡ q x) l → filter p l ≡ filter q l
   filter-ext p q [] h = refl
   filter-ext p q (x ∷ l) h = ap (λ (b : Bool). consIf b x (filter p l)) (h .0) ∙ ap (consIf (q x) x) (filter-ext p q l (h .1))

@@ -95,6 +95,17 @@ module _ {A : Type 0} where
 
   -- ---- a list by its entries
 
+  pub all-listed : (P : A → Type 0) (f : ℕ → A) (n : ℕ) → ((k : ℕ) → k < n → P (f k)) → All P (listed f n)
+  all-listed P f zero h = tt
+  all-listed P f (suc n) h = all-append P (listed f n) (f n ∷ []) (all-listed P f n (λ k l. h k (omega arith))) (h n (le-refl (suc n)), tt)
+
+  pub listed-ext : (f g : ℕ → A) (n : ℕ) → ((k : ℕ) → k < n → f k ≡ g k) → listed f n ≡ listed g n
+  listed-ext f g zero h = refl
+  listed-ext f g (suc n) h = both (listed f n) (listed g n) (f n) (g n) (listed-ext f g n (λ k l. h k (omega arith))) (h n (le-refl (suc n)))
+    where
+      both : (xs ys : List A) (x y : A) → xs ≡ ys → x ≡ y → xs ++ (x ∷ []) ≡ ys ++ (y ∷ [])
+      both xs ys x y p q = cc
+
   pub length-listed : (f : ℕ → A) (n : ℕ) → length (listed f n) ≡ n
   length-listed f zero = refl
   length-listed f (suc n) = omega (arith, length-append (listed f n) (f n ∷ []), length-listed f n)

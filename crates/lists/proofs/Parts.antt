@@ -3,15 +3,17 @@
 -- `same-len-mid`, `take-put`, `drop-put`, the length, the front and the rest when a part is back; `set-mid-at`, a store in a part.
 -- Assumes nothing.
 use mathlib.Core.Path.{_≡_, refl, sym, ap, _∙_, subst}
+use mathlib.Core.Logic.{⊎-elim}
 use mathlib.Core.List.{List, [], _∷_, _++_, append-nil, append-assoc}
-use Prim.Native.Nat.{ℕ, zero, suc, _+_, _-_, _≤_, _<_}
+use Prim.Native.Nat.{ℕ, zero, suc, _+_, _-_, _≤_, _<_, min}
 use native.Mathlib.Nat.{sub-zero}
 use native.Mathlib.Numerals.{add-one}
 use native.Mathlib.Omega.{arith}
-use lib.ListN.{length, getD, set, take, drop, length-drop, drop-of-length-le}
-use lib.Seq.{sets, sets-eq, paste, paste-suc, slice, take-all, take-nil, take-take, take-add, take-at, drop-at, drop-cons, drop-drop, getD-take, getD-drop, length-take-le}
+use lib.ListN.{length, getD, set, take, drop, length-drop, drop-of-length-le, take-append-drop}
+use lib.Seq.{sets, sets-eq, paste, paste-suc, slice, slice-cons, take-all, take-nil, take-take, take-add, take-at, drop-at, drop-cons, drop-drop, getD-take, getD-drop, length-take-le}
 use borrow.Rule.Slice.PartMut.{putMid}
 use Rattle.lists.specs.Parts.{part, Has}
+use Rattle.lists.proofs.Cases.{lt-or-le}
 
 module _ {A : Type 0} where
   -- ---- a part in other words
@@ -94,6 +96,16 @@ module _ {A : Type 0} where
   pub drop-here : (l : List A) (i : ℕ) (d : A) → i < length l → drop i l ≡ getD l i d ∷ drop (i + 1) l
   drop-here l i d h = drop-cons l i d h ∙ ap (λ (n : ℕ). getD l i d ∷ drop n l) (sym (add-one i))
 
+  pub part-here : (a e : ℕ) (l : List A) (d : A) → a < e → e ≤ length l → part a e l ≡ getD l a d ∷ part (a + 1) e l
+  part-here a e l d h k =
+      sym (slice-part a e l) ∙ slice-cons a e l d h k ∙ ap (λ (q : List A). getD l a d ∷ q) (slice-part (suc a) e l) ∙ ap (λ (n : ℕ). getD l a d ∷ part n e l) (sym (add-one a))
+
+  -- a part and what is behind it
+  pub part-then : (a e : ℕ) (l : List A) → a ≤ e → part a e l ++ drop e l ≡ drop a l
+  part-then a e l h =
+      let s : e ≡ a + (e - a) = omega arith in
+      ap (λ (n : ℕ). part a e l ++ drop n l) s ∙ ap (λ (q : List A). part a e l ++ q) (sym (drop-drop (e - a) a l)) ∙ take-append-drop (e - a) (drop a l)
+
   -- ---- a list that stands at a place
 
   -- a stretch of a front is a stretch of the whole
@@ -118,6 +130,28 @@ module _ {A : Type 0} where
 
   pub getD-has : (l : List A) (a : ℕ) (xs : List A) (i : ℕ) (d : A) → Has l a xs → i < length xs → getD l (a + i) d ≡ getD xs i d
   getD-has l a xs i d p h = sym (getD-drop a l i d) ∙ sym (getD-take (length xs) (drop a l) i d h) ∙ ap (λ (q : List A). getD q i d) p
+
+  -- both ends held to the list's length: the same part
+  pub part-held : (l : List A) (a z p q : ℕ) → p ≡ min a (length l) → q ≡ min z (length l) → part p q l ≡ part a z l
+  part-held l a z p q e f = ⊎-elim past within (lt-or-le (length l) a)
+    where
+      none : (l : List A) (m n : ℕ) → length l ≤ n → take m (drop n l) ≡ []
+      none l m n h = ap (take m) (drop-of-length-le l h) ∙ take-nil m
+
+      past : length l < a → part p q l ≡ part a z l
+      past h = none l (q - p) p (omega arith) ∙ sym (none l (z - a) a (omega arith))
+
+      whole : (k : ℕ) → length l - a ≤ k → take k (drop a l) ≡ drop a l
+      whole k h = take-all k (drop a l) (simp length-drop h)
+
+      within : a ≤ length l → part p q l ≡ part a z l
+      within h =
+          let i : p ≡ a = omega arith in
+          ap (λ (n : ℕ). part n q l) i
+          ∙ ⊎-elim
+          (λ k. let j : q ≡ z = omega arith in ap (λ (n : ℕ). part a n l) j)
+          (λ k. whole (q - a) (omega arith) ∙ sym (whole (z - a) (omega arith)))
+          (lt-or-le z (length l))
 
   -- ---- the rest from a on was lent, `&mut l[a..]`, and came back as v
 

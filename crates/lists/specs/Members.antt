@@ -1,12 +1,13 @@
--- What is said of the entries of a list: which are in it, that none is there twice, that all have a property, that numbers do not fall.
+-- What is said of the entries of a list: which are in it, that none is there twice, that all have a property, that numbers do not fall;
+-- and a test of every number below another, as a loop that counts up makes it.
 -- Document 01, "Sound tables" ("starts .. never fall"; "items name polygons") and the lists that name an id once.
 -- `In` is the library's membership, `List·Memᴰ`, in a form that computes: see `in-mem` and `mem-in` of proofs/Members.antt.
 -- Assumes nothing.
 use mathlib.Core.Path.{_≡_}
 use mathlib.Core.Logic.{_⊎_}
-use mathlib.Core.Bool.{Bool, false, _||_}
+use mathlib.Core.Bool.{Bool, true, false, _&&_, _||_}
 use mathlib.Core.List.{List, [], _∷_}
-use Prim.Native.Nat.{ℕ, suc, _+_, _≤_, _<_}
+use Prim.Native.Nat.{ℕ, zero, suc, _+_, _≤_, _<_}
 use lib.ListN.{getD}
 use lib.Dec.{eqb}
 
@@ -29,6 +30,11 @@ module _ {A : Type 0} where
 -- every entry is below n
 abbrev pub AllBelow : ℕ → List ℕ → Type 0
 AllBelow n l = All (λ x. x < n) l
+
+-- every number below n passes the test
+abbrev pub allTo : (ℕ → Bool) → ℕ → Bool
+allTo p zero = true
+allTo p (suc n) = allTo p n && p n
 
 -- whether x is in the list
 abbrev pub holds : ℕ → List ℕ → Bool

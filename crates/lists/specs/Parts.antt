@@ -3,7 +3,7 @@
 -- Assumes nothing.
 use mathlib.Core.Path.{_≡_}
 use mathlib.Core.List.{List, _++_}
-use Prim.Native.Nat.{ℕ, _-_}
+use Prim.Native.Nat.{ℕ, _-_, _<_}
 use lib.ListN.{length, take, drop, replicate}
 
 module _ {A : Type 0} where
@@ -18,3 +18,14 @@ module _ {A : Type 0} where
   -- l, and z after it up to the length n
   abbrev pub padded : A → ℕ → List A → List A
   padded z n l = l ++ replicate (n - length l) z
+
+  -- only the stretch from a up to b, b out, was written
+  pub record Only (a b : ℕ) (old new : List A) : Type 0 where
+    pub long : length new ≡ length old
+    pub front : take a new ≡ take a old
+    pub rest : drop b new ≡ drop b old
+
+  -- of n entries, read by a rule before and after, the entry i is x now and each other one is as it was
+  pub record Stored (before after : ℕ → A) (n i : ℕ) (x : A) : Type 0 where
+    pub here : after i ≡ x
+    pub others : (j : ℕ) → j < n → (j ≡ i → ⊥) → after j ≡ before j

@@ -6,7 +6,7 @@ use grid::Listing;
 use grid::Range;
 use tables::Built;
 ghost use mathlib.Core.Path.{_≡_};
-ghost use Rattle.tables.specs.Tables.{boxAt};
+ghost use Rattle.grid.specs.Boxes.{boxAt};
 ghost use Rattle.probe.specs.Numbers.{gridOf, found, fourOf, builtStatus, builtCount, listedStatus, listedCounts};
 
 pub fn grid_of(gx: f64, gy: f64, cell: f64, inv: f64, cols: u32, rows: u32) -> Grid
@@ -25,7 +25,7 @@ pub fn grid_of(gx: f64, gy: f64, cell: f64, inv: f64, cols: u32, rows: u32) -> G
 pub fn box_of(b: &[f64; 4]) -> Aabb
     ensures { λ r. ⌜ r ≡ boxAt (now (b .entry)) 0 ⌝ }
 {
-    tables::box_at(b, 0)
+    grid::box_at(b, 0)
 }
 
 pub fn found(r: Range) -> u32

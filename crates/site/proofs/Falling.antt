@@ -8,10 +8,10 @@ use lib.ListN.{length, getD, length-take}
 use lib.Dec.{leb}
 use Rattle.lists.specs.Parts.{part}
 use Rattle.lists.proofs.Parts.{getD-part}
-use Rattle.site.specs.AllTo.{allTo}
+use Rattle.lists.specs.Members.{allTo}
 use Rattle.site.specs.Tables.{startAt}
 use Rattle.site.specs.Soundness.{neverFall}
-use Rattle.site.proofs.AllTo.{allTo-ext}
+use Rattle.lists.proofs.AllTo.{allTo-ext}
 
 -- one start more
 pub fall-step : (l : List ℕ) (c last next : ℕ) (ok : Bool) → 1 ≤ c → last ≡ startAt l (c - 1) → next ≡ startAt l c → ok ≡ neverFall (c - 1) l

@@ -1,5 +1,4 @@
 -- Laws of `site`.
-pub mod AllTo
 pub mod Accessing
 pub mod Falling
 pub mod Ways

@@ -1,7 +1,8 @@
 -- WHAT SOUND TABLES GIVE: the record `Sound` follows from the test, and from it what the crate `grid` asks of its tables. Assumes nothing.
-use Prim.Native.Nat.{ℕ, _+_, _-_, _*_, _≤_, _<_}
-use mathlib.Core.Path.{_≡_, subst, _∙_}
-use mathlib.Core.Bool.{Bool, true, false, _&&_}
+use Prim.Native.Nat.{ℕ, _+_, _-_, _*_, _≤_, _<_, min}
+use mathlib.Core.Path.{_≡_, refl, subst, _∙_}
+use mathlib.Core.Logic.{⊎-elim}
+use mathlib.Core.Bool.{Bool, true, false, _&&_, cond}
 use native.Mathlib.Numerals.{add-one}
 use native.Mathlib.Nat.{le-trans, le-of-eq}
 use native.Mathlib.Omega.{arith}
@@ -9,17 +10,19 @@ use mathlib.Core.List.{List}
 use lib.ListN.{length, length-take, length-drop}
 use lib.Dec.{ltb, leb, eqb}
 use lib.Ieee.{Float, inf, lt, le, eq}
-use borrow.Author.Tests.{ltb-true, leb-true, eqb-true, lt-ltb, le-leb, eq-eqb}
+use borrow.Author.Tests.{ltb-true, leb-true, eqb-true, eqb-false, lt-ltb, le-leb, eq-eqb}
 use Rattle.num.specs.Ops.{_⊘_, oneF}
-use Rattle.lists.specs.Members.{Rises}
 use Rattle.grid.specs.Entries as entries
 use Rattle.grid.specs.declared.Grid.{Grid}
 use Rattle.site.specs.declared.Site.{Site}
-use Rattle.site.specs.AllTo.{allTo}
-use Rattle.site.specs.Domain.{sizeInDomain, pointInDomain}
-use Rattle.site.specs.Tables.{Tables, pointStride, boxStride, polygonStride, firstOf, lenOf, boxAt, pointAt, ownerAt, startAt, itemAt, vertsOf, boxOf, cellsOf}
+use Rattle.lists.specs.Members.{Rises, allTo}
+use Rattle.bounds.specs.Domain.{inSize}
+use Rattle.grid.specs.Boxes.{boxStride, boxAt}
+use Rattle.site.specs.Domain.{pointInDomain}
+use Rattle.site.specs.Tables.{Tables, pointStride, polygonStride, firstOf, lenOf, pointAt, ownerAt, startAt, itemAt, vertsOf, boxOf, edgeEndOf, cellsOf}
 use Rattle.site.specs.Soundness.{tablesLong, countsWithin, headInDomain, pointsInDomain, cellRight, sameBox, boxRight, boxesRight, cellsWithin, neverFall, startsRight, itemRight, itemsRight, partsInside, owned, allOwned, owns, allOwn, soundOf, Sound}
-use Rattle.site.proofs.AllTo.{both, allTo-at, all-to}
+use Rattle.lists.proofs.Cases.{lt-or-le}
+use Rattle.lists.proofs.AllTo.{both, allTo-at, all-to}
 use Rattle.site.proofs.Ways.{by-items}
 
 -- the twelve lines, apart
@@ -96,7 +99,7 @@ few : (s : Site) → countsWithin s ≡ true → (s .polygons ≤ 4096) × (s .p
 unfolding countsWithin
 few s e = let a = both _ _ e in (leb-true _ _ (a .0), leb-true _ _ (a .1))
 
-head-in : (s : Site) → headInDomain s ≡ true → (sizeInDomain (s .width) ≡ true) × (sizeInDomain (s .height) ≡ true) × (pointInDomain (s .grid .origin) ≡ true)
+head-in : (s : Site) → headInDomain s ≡ true → (inSize (s .width) ≡ true) × (inSize (s .height) ≡ true) × (pointInDomain (s .grid .origin) ≡ true)
 unfolding headInDomain
 head-in s e = let a = both _ _ e in let b = both _ _ (a .0) in (b .0, b .1, a .1)
 
@@ -269,6 +272,9 @@ module _ (s : Site) (t : Tables) (h : Sound s t) where
       ∙ items-pass
 
 -- ---- what a reader of the tables cites
+below : (n end all : ℕ) → n ≤ end → end ≤ all → (n ≡ end → ⊥) → min n 4294967295 < all
+below n end all p q ne = ⊎-elim (λ l. omega arith) (λ l. absurd (ne (omega arith))) (lt-or-le n end)
+
 module _ {s : Site} {t : Tables} (h : Sound s t) where
   -- a polygon's points lie inside the slice
   pub verts-within : (k : ℕ) → k < s .polygons → pointStride * (firstOf (t .polygons) k + lenOf (t .polygons) k) ≤ length (t .points)
@@ -285,6 +291,18 @@ module _ {s : Site} {t : Tables} (h : Sound s t) where
   owner-is k i q a b =
       let e : firstOf (t .polygons) k + (i - firstOf (t .polygons) k) ≡ i = omega arith in
       subst (λ (n : ℕ). ownerAt (t .owners) n ≡ k) e (h .one-owner k (i - firstOf (t .polygons) k) q (omega arith))
+
+  -- an edge ends at a point
+  pub end-below : (e : ℕ) → e < s .points → edgeEndOf (t .polygons) (t .owners) e < s .points
+  unfolding edgeEndOf
+  end-below e q = go (eqb (e + 1) (firstOf (t .polygons) k + lenOf (t .polygons) k)) (eqb-false (e + 1) (firstOf (t .polygons) k + lenOf (t .polygons) k))
+    where
+      k : ℕ
+      k = ownerAt (t .owners) e
+
+      go : (b : Bool) → (b ≡ false → e + 1 ≡ firstOf (t .polygons) k + lenOf (t .polygons) k → ⊥) → cond b (firstOf (t .polygons) k) (min (e + 1) 4294967295) < s .points
+      go true n = omega (arith, h .owner-first e q)
+      go false n = below (e + 1) (firstOf (t .polygons) k + lenOf (t .polygons) k) (s .points) (omega (arith, h .owner-end e q)) (h .inside k (h .owner-below e q)) (n refl)
 
   -- WHAT THE CRATE `grid` ASKS of the starts and the items
   pub grid-sound : entries.Sound (s .grid .cols) (s .grid .rows) (t .starts) (t .items)

@@ -1,29 +1,14 @@
--- Document 01, "Domain": coordinates and origins finite, each from -1,000,000 to 1,000,000; width and height finite, 0 to 1,000,000.
--- A NaN passes no comparison, and an infinity is past either end, so what passes is finite. "Minus zero on input is loaded as plus zero".
--- Assumes nothing.
+-- Points and boxes in the domain, and loading. Document 01, "Domain": coordinates and origins finite, each from -1,000,000 to 1,000,000 (`inDomain` of
+-- crate `bounds`); "Minus zero on input is loaded as plus zero". Assumes nothing.
 use mathlib.Core.Path.{_≡_, refl}
-use mathlib.Core.Bool.{Bool, false, _&&_}
-use lib.Ieee.{Float, binary64, add, neg, le, ofBits, round}
+use mathlib.Core.Bool.{Bool, _&&_}
+use lib.Ieee.{Float, binary64, add, ofBits, round}
 use Rattle.num.specs.Ops.{_⊕_, zeroF}
 use Rattle.geom.specs.declared.Vec2.{Vec2}
 use Rattle.geom.specs.declared.Aabb.{Aabb}
 use Rattle.geom.specs.Vec.{vec}
 use Rattle.geom.specs.Box.{box}
-
-abbrev pub million : Float
-million = ofBits binary64 0x412e_8480_0000_0000
-
-pub million-is : million ≡ round binary64 false 1000000 1
-unfolding ofBits round
-million-is = refl
-
--- a coordinate
-unfoldable pub inDomain : Float → Bool
-inDomain x = le (neg million) x && le x million
-
--- a width or a height
-unfoldable pub sizeInDomain : Float → Bool
-sizeInDomain x = le zeroF x && le x million
+use Rattle.bounds.specs.Domain.{inDomain}
 
 -- a point's coordinates
 unfoldable pub pointInDomain : Vec2 → Bool

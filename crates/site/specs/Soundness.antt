@@ -9,13 +9,14 @@ use lib.ListN.{length}
 use lib.Dec.{ltb, leb, eqb}
 use lib.Ieee.{Float, inf, lt, le, eq}
 use Rattle.num.specs.Ops.{_⊘_, oneF}
-use Rattle.lists.specs.Members.{Rises}
 use Rattle.geom.specs.declared.Aabb.{Aabb}
 use Rattle.grid.specs.declared.Grid.{Grid}
 use Rattle.site.specs.declared.Site.{Site}
-use Rattle.site.specs.AllTo.{allTo}
-use Rattle.site.specs.Domain.{sizeInDomain, pointInDomain}
-use Rattle.site.specs.Tables.{Tables, pointStride, boxStride, polygonStride, firstOf, lenOf, boxAt, pointAt, ownerAt, startAt, itemAt, boxOf, cellsOf}
+use Rattle.lists.specs.Members.{Rises, allTo}
+use Rattle.bounds.specs.Domain.{inSize}
+use Rattle.grid.specs.Boxes.{boxStride, boxAt}
+use Rattle.site.specs.Domain.{pointInDomain}
+use Rattle.site.specs.Tables.{Tables, pointStride, polygonStride, firstOf, lenOf, pointAt, ownerAt, startAt, itemAt, boxOf, cellsOf}
 
 -- "starts number cells plus one", and so on: no table is shorter than the head says. A longer slice is a table with room behind it
 unfoldable pub tablesLong : Site → Tables → Bool
@@ -33,7 +34,7 @@ countsWithin site = leb (site .polygons) 4096 && leb (site .points) 65536
 
 -- "width, height, origin and points in the domain": the head's numbers, and those of n points
 unfoldable pub headInDomain : Site → Bool
-headInDomain site = sizeInDomain (site .width) && sizeInDomain (site .height) && pointInDomain (site .grid .origin)
+headInDomain site = inSize (site .width) && inSize (site .height) && pointInDomain (site .grid .origin)
 
 unfoldable pub pointsInDomain : ℕ → List Float → Bool
 pointsInDomain n points = allTo (λ i. pointInDomain (pointAt points i)) n
@@ -123,8 +124,8 @@ pub record Sound (site : Site) (t : Tables) : Type 0 where
   pub has-rows : 1 ≤ site .grid .rows
   pub few-cells : cellsOf site ≤ 1048576
   -- the numbers
-  pub width-in : sizeInDomain (site .width) ≡ true
-  pub height-in : sizeInDomain (site .height) ≡ true
+  pub width-in : inSize (site .width) ≡ true
+  pub height-in : inSize (site .height) ≡ true
   pub origin-in : pointInDomain (site .grid .origin) ≡ true
   pub point-in : (i : ℕ) → i < site .points → pointInDomain (pointAt (t .points) i) ≡ true
   pub cell-least : le oneF (site .grid .cell) ≡ true

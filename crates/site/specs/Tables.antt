@@ -1,18 +1,19 @@
 -- The six lent tables of a site and what stands in them, field by field (`scene.rs`, `Scene` and `Polygon`; `grid.rs`, `starts` and `items`).
 -- A table is a list of numbers, a fixed count of them for each entry. It may be lent longer than it is. Past the end a number reads as 0 and a
--- float as NaN. Definitions only.
-use Prim.Native.Nat.{ℕ, _+_, _*_}
+-- float as NaN. The boxes are read as `grid` reads them (its specs/Boxes.antt). Definitions only.
+use Prim.Native.Nat.{ℕ, _+_, _*_, min}
 use mathlib.Core.Bool.{cond}
 use mathlib.Core.List.{List}
 use lib.ListN.{getD}
-use lib.Dec.{ltb}
+use lib.Dec.{eqb}
 use lib.Ieee.{Float, nan}
 use Rattle.lists.specs.Parts.{part}
 use Rattle.geom.specs.declared.Vec2.{Vec2}
 use Rattle.geom.specs.declared.Aabb.{Aabb}
 use Rattle.geom.specs.Vec.{vec}
-use Rattle.geom.specs.Box.{box, emptyBox, fromPointsOf}
+use Rattle.extent.specs.Boxes.{polygonBoxOf}
 use Rattle.site.specs.declared.Site.{Site}
+use Rattle.site.specs.declared.Ends.{Ends}
 
 -- the lent tables, in the order in which every function takes them
 pub record Tables : Type 0 where
@@ -38,10 +39,6 @@ tables points boxes polygons owners starts items = record {
 abbrev pub pointStride : ℕ
 pointStride = 2
 
--- a box: min x, min y, max x, max y
-abbrev pub boxStride : ℕ
-boxStride = 4
-
 -- a polygon: first, len
 abbrev pub polygonStride : ℕ
 polygonStride = 2
@@ -53,12 +50,6 @@ firstOf polygons k = getD polygons (polygonStride * k) 0
 
 abbrev pub lenOf : List ℕ → ℕ → ℕ
 lenOf polygons k = getD polygons (polygonStride * k + 1) 0
-
--- the box of the polygon k
-abbrev pub boxAt : List Float → ℕ → Aabb
-boxAt boxes k =
-    box (vec (getD boxes (boxStride * k) nan) (getD boxes (boxStride * k + 1) nan))
-    (vec (getD boxes (boxStride * k + 2) nan) (getD boxes (boxStride * k + 3) nan))
 
 -- the point i
 abbrev pub pointAt : List Float → ℕ → Vec2
@@ -79,9 +70,21 @@ itemAt items i = getD items i 0
 abbrev pub vertsOf : List Float → List ℕ → ℕ → List Float
 vertsOf points polygons k = part (pointStride * firstOf polygons k) (pointStride * (firstOf polygons k + lenOf polygons k)) points
 
--- the box that they give: "Fewer than three points: empty box"
-unfoldable pub boxOf : List Float → List ℕ → ℕ → Aabb
-boxOf points polygons k = cond (ltb (lenOf polygons k) 3) emptyBox (fromPointsOf (vertsOf points polygons k))
+-- the box that they give
+abbrev pub boxOf : List Float → List ℕ → ℕ → Aabb
+boxOf points polygons k = polygonBoxOf (vertsOf points polygons k)
+
+-- the point that the edge e ends at: the first of its owner's points after the last of them, otherwise the next. A `u32`, so no more than the largest one
+unfoldable pub edgeEndOf : List ℕ → List ℕ → ℕ → ℕ
+edgeEndOf polygons owners e =
+    cond (eqb (e + 1) (firstOf polygons (ownerAt owners e) + lenOf polygons (ownerAt owners e)))
+    (firstOf polygons (ownerAt owners e))
+    (min (e + 1) 4294967295)
+
+-- its end points
+unfoldable pub edgeOf : List Float → List ℕ → List ℕ → ℕ → Ends
+unfolding edgeEndOf
+edgeOf points polygons owners e = record { a = pointAt points e; b = pointAt points (edgeEndOf polygons owners e) }
 
 -- ---- the head
 -- how many cells the grid has

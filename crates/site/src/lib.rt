@@ -9,9 +9,9 @@ use grid::Grid;
 ghost use mathlib.Core.Path.{_≡_};
 ghost use Prim.Native.Nat.{_-_, _<_, min};
 ghost use lib.ListN.{length};
-ghost use Rattle.site.specs.Tables.{tables, firstOf, lenOf, boxAt, pointAt, ownerAt, startAt, itemAt, vertsOf, boxOf, cellsOf};
-ghost use Rattle.site.specs.Domain.{inDomain, sizeInDomain, pointInDomain, boxInDomain, loadOf, loadPointOf, loadBoxOf};
-ghost use Rattle.site.specs.Soundness.{tablesLong, countsWithin, headInDomain, pointsInDomain, cellRight, sameBox, boxRight, boxesRight, cellsWithin, neverFall, startsRight, itemRight, itemsRight, partsInside, owned, allOwned, owns, allOwn, soundOf};
+ghost use Rattle.site.specs.Tables.{tables, firstOf, lenOf, pointAt, ownerAt, startAt, itemAt, vertsOf, boxOf, edgeEndOf, edgeOf, cellsOf};
+ghost use Rattle.site.specs.Domain.{pointInDomain, boxInDomain, loadOf, loadPointOf, loadBoxOf};
+ghost use Rattle.site.specs.Soundness.{tablesLong, countsWithin, headInDomain, pointsInDomain, cellRight, sameBox, boxesRight, cellsWithin, neverFall, startsRight, itemRight, itemsRight, partsInside, owned, allOwned, owns, allOwn, soundOf};
 
 // How many numbers an entry has. A point: x, y. A box: min x, min y, max x, max y. A polygon: first, len.
 const POINT: usize = 2;
@@ -28,6 +28,18 @@ pub struct Site {
     pub polygons: u32,
     pub points: u32,
     pub items: u32,
+}
+
+// What a cast answers: the distance and the number of the edge that is hit, or a miss. The Rust's `Option<RayHit>`.
+pub enum Cast {
+    Hit(f64, u32),
+    Miss,
+}
+
+// The end points of an edge: the pair that the Rust's `edge` answers.
+pub struct Ends {
+    pub a: Vec2,
+    pub b: Vec2,
 }
 
 // ---- the fields
@@ -51,23 +63,6 @@ pub fn len_of(polygons: &[u32], k: u32) -> u32
     ensures { λ r. ⌜ r ≡ lenOf (now (polygons .entry)) k ⌝ }
 {
     lists::at32(polygons, POLYGON * lists::wide(k) + 1)
-}
-
-// The box of the polygon k.
-pub fn box_at(boxes: &[f64], k: u32) -> Aabb
-    ensures { λ r. ⌜ r ≡ boxAt (now (boxes .entry)) k ⌝ }
-{
-    let at = BOX * lists::wide(k);
-    Aabb {
-        min: Vec2 {
-            x: lists::at64(boxes, at),
-            y: lists::at64(boxes, at + 1),
-        },
-        max: Vec2 {
-            x: lists::at64(boxes, at + 2),
-            y: lists::at64(boxes, at + 3),
-        },
-    }
 }
 
 // The point i.
@@ -124,33 +119,43 @@ pub fn verts_of<'a>(points: &'a [f64], polygons: &[u32], k: u32) -> &'a [f64]
 pub fn box_of(points: &[f64], polygons: &[u32], k: u32) -> Aabb
     ensures { λ r. ⌜ r ≡ boxOf (now (points .entry)) (now (polygons .entry)) k ⌝ }
 {
-    if len_of(polygons, k) < 3 {
-        return Aabb::empty();
+    extent::polygon_box(verts_of(points, polygons, k))
+}
+
+// The point that the edge ends at; it starts at the point of its own number. The sum stays at the largest `u32` where the Rust's overflows.
+pub fn edge_end(polygons: &[u32], owners: &[u32], edge: u32) -> u32
+    ensures { λ r. ⌜ r ≡ edgeEndOf (now (polygons .entry)) (now (owners .entry)) edge ⌝ }
+{
+    let at = lists::wide(edge);
+    let owner = owner_at(owners, at);
+    let first = first_of(polygons, owner);
+    let len = len_of(polygons, owner);
+    if at + 1 == lists::wide(first) + lists::wide(len) {
+        return first;
     }
-    Aabb::from_points(verts_of(points, polygons, k))
+    if edge < 4294967295 {
+        return edge + 1;
+    }
+    edge
+}
+
+// The end points of the edge.
+pub fn edge(points: &[f64], polygons: &[u32], owners: &[u32], edge: u32) -> Ends
+    ensures { λ r. ⌜ r ≡ edgeOf (now (points .entry)) (now (polygons .entry)) (now (owners .entry)) edge ⌝ }
+{
+    Ends {
+        a: point_at(points, edge),
+        b: point_at(points, edge_end(polygons, owners, edge)),
+    }
 }
 
 // ---- input numbers
-
-// Is the number in the domain of coordinates?
-pub fn in_domain(x: f64) -> bool
-    ensures { λ r. ⌜ r ≡ inDomain x ⌝ }
-{
-    (-1000000.0 <= x) & (x <= 1000000.0)
-}
-
-// Is the number in the domain of a width or a height?
-pub fn size_in_domain(x: f64) -> bool
-    ensures { λ r. ⌜ r ≡ sizeInDomain x ⌝ }
-{
-    (0.0 <= x) & (x <= 1000000.0)
-}
 
 // Are both coordinates in the domain?
 pub fn point_in_domain(p: Vec2) -> bool
     ensures { λ r. ⌜ r ≡ pointInDomain p ⌝ }
 {
-    in_domain(p.x) & in_domain(p.y)
+    bounds::in_domain(p.x) & bounds::in_domain(p.y)
 }
 
 // Are both corners in the domain?
@@ -218,7 +223,7 @@ fn head_in_domain(site: Site) -> bool
     ensures { λ r. ⌜ r ≡ headInDomain site ⌝ }
 {
     let origin = site.grid.origin;
-    size_in_domain(site.width) & size_in_domain(site.height) & point_in_domain(origin)
+    bounds::in_size(site.width) & bounds::in_size(site.height) & point_in_domain(origin)
 }
 
 fn points_in_domain(n: u32, points: &[f64]) -> bool
@@ -252,7 +257,11 @@ fn boxes_right(n: u32, points: &[f64], boxes: &[f64], polygons: &[u32]) -> bool
     let mut ok = true;
     let mut k: u32 = 0;
     while k < n {
-        ok = ok & same_box(box_at(boxes, k), box_of(points, polygons, k));
+        ok = ok
+            & same_box(
+                grid::box_at(boxes, lists::wide(k)),
+                box_of(points, polygons, k),
+            );
         k += 1;
     }
     ok

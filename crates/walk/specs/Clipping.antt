@@ -5,12 +5,13 @@ use mathlib.Core.Bool.{false, _||_, cond}
 use Prim.Native.Nat.{ℕ, _+_, _-_, _^_, _<_}
 use lib.IntN.{ℤ, pos, negsuc}
 use lib.Dec.{ltb, eqb}
-use lib.Ieee.{Float, inf, binary64, ofBits, ofInt, round, neg, lt, toSigned}
+use lib.Ieee.{Float, inf, binary64, ofBits, round, neg, lt, toSigned}
 use Rattle.num.specs.Ops.{_⊕_, _⊖_, _⊗_, _⊘_, zeroF, oneF}
 use Rattle.num.specs.Num.{absOf, floorOf, minOf, maxOf}
 use Rattle.geom.specs.declared.Vec2.{Vec2}
 use Rattle.geom.specs.Vec.{addOf, mulOf}
 use Rattle.grid.specs.declared.Grid.{Grid}
+use Rattle.grid.specs.Range.{countF}
 use Rattle.walk.specs.declared.Span.{Span}
 use Rattle.walk.specs.declared.Span.the-variants.{Part, Nowhere}
 use Rattle.walk.specs.declared.Turn.the-variants.{Up, Down, Stay}
@@ -41,7 +42,7 @@ inPart f Nowhere = Nowhere
 
 -- where the grid ends, on an axis with this many cells
 abbrev pub endOf : Float → ℕ → Float → Float
-endOf from count cell = from ⊕ ofInt binary64 (pos count) ⊗ cell
+endOf from count cell = from ⊕ countF count ⊗ cell
 
 -- the part of the ray in the grid's box: x, and in what is left of it y
 unfoldable pub clipBoxOf : Grid → Vec2 → Vec2 → Float → Span
@@ -61,8 +62,8 @@ indexOf at last = clampTo (toSigned 63 (floorOf at)) last
 -- which way the index goes on an axis, the t of the first boundary crossing, and the t between crossings
 unfoldable pub axisOf : Float → Float → Float → ℕ → Float → Axis
 axisOf d o from index cell =
-    cond (lt zeroF d) (record { turn = Up; next = (from ⊕ ofInt binary64 (pos (index + 1)) ⊗ cell ⊖ o) ⊘ d; delta = cell ⊘ d })
-    (cond (lt d zeroF) (record { turn = Down; next = (from ⊕ ofInt binary64 (pos index) ⊗ cell ⊖ o) ⊘ d; delta = neg cell ⊘ d })
+    cond (lt zeroF d) (record { turn = Up; next = (from ⊕ countF (index + 1) ⊗ cell ⊖ o) ⊘ d; delta = cell ⊘ d })
+    (cond (lt d zeroF) (record { turn = Down; next = (from ⊕ countF index ⊗ cell ⊖ o) ⊘ d; delta = neg cell ⊘ d })
     (record { turn = Stay; next = inf false; delta = inf false }))
 
 -- the walk from t0 on

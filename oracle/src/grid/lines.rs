@@ -47,7 +47,7 @@ fn small_sites(r: &mut SplitMix64) -> Vec<Site> {
     let groups = sites::groups();
     let mut found = Vec::new();
     for group in groups.iter().filter(|g| g.sites >= 1_000).cycle() {
-        let site = (group.make)(r);
+        let site = group.make(r);
         if fits(&site) && (is_rich(&site) || found.len() % 6 == 0) {
             found.push(site);
         }

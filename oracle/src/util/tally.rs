@@ -86,6 +86,10 @@ impl Tally {
         }
     }
 
+    pub fn differing(&self) -> u64 {
+        self.differ
+    }
+
     pub fn add<I: Value, O: Value>(&mut self, input: I, ours: O, rust: O) {
         self.points += 1;
         if ours.same(rust) {

@@ -1,7 +1,8 @@
 -- `extent::bounds_of` meets its contract. Assumes nothing.
 use Rattle.extent.proofs.Steps.{bounds-none, bounds-step}
 use Rattle.extent.specs.Extent.{boundsOf}
-use Rattle.extent.specs.Boxes.{boxAt, boxesOf}
+use Rattle.extent.specs.Boxes.{boxesOf}
+use Rattle.grid.specs.Boxes.{boxAt}
 use Rattle.lists.specs.Lists.{listed}
 use native.Mathlib.Nat.{le-antisymm}
 use Prim.Native.Nat.{ℕ, _-_, _≤_}

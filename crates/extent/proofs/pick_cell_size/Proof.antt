@@ -2,7 +2,8 @@
 use Rattle.extent.proofs.Steps.{sides-none, sides-step, sides-most}
 use Rattle.extent.specs.declared.Sides.{Sides}
 use Rattle.extent.specs.Extent.{sidesOf, cellFrom, cellSizeOf}
-use Rattle.extent.specs.Boxes.{boxAt, boxesOf}
+use Rattle.extent.specs.Boxes.{boxesOf}
+use Rattle.grid.specs.Boxes.{boxAt}
 use Rattle.lists.specs.Lists.{listed}
 use native.Mathlib.Nat.{le-antisymm}
 use Prim.Native.Nat.{ℕ, _-_, _≤_}

@@ -1,6 +1,5 @@
 -- `grid::stamp_part` meets its contract. Assumes nothing.
-use Rattle.grid.proofs.Stamping.{met-new, met-seen}
-use Rattle.grid.proofs.Stamping.{Left, begun, moved, end-marks, end-count, end-ids}
+use Rattle.grid.proofs.Stamping.{met-new, met-seen, Left, begun, moved, end-marks, end-count, end-ids}
 use Rattle.lists.proofs.Parts.{drop-here}
 use lib.ListN.{length, drop, drop-of-length-le}
 use mathlib.Core.Logic.{⊎-elim}

@@ -7,9 +7,9 @@ use native.Mathlib.Nat.{le-antisymm}
 use native.Mathlib.Omega.{arith}
 use borrow.Author.Needs.{needs}
 use borrow.Author.Tests.{not-true, not-false}
-use Rattle.site.specs.AllTo.{allTo}
+use Rattle.lists.specs.Members.{allTo}
 use Rattle.site.specs.Soundness.{owns, allOwn}
-use Rattle.site.proofs.AllTo.{allTo-fails}
+use Rattle.lists.proofs.AllTo.{allTo-fails}
 use Rattle.site.proofs.all_own.Statement.{statement}
 use Rattle.site.proofs.all_own.Tie as tie
 

@@ -3,8 +3,7 @@ use mathlib.Core.Path.{_≡_, ap, _∙_}
 use native.Mathlib.Nat.{le-antisymm}
 use native.Mathlib.Numerals.{add-one}
 use Rattle.site.specs.Soundness.{owned, allOwned}
-use Rattle.site.specs.AllTo.{allTo}
-use mathlib.Core.Path.{_≡_, _∙_}
+use Rattle.lists.specs.Members.{allTo}
 use Prim.Native.Nat.{_≤_, _-_}
 use borrow.Author.Needs.{needs}
 use native.Mathlib.Omega.{arith}

@@ -3,8 +3,7 @@ use mathlib.Core.Path.{_≡_, ap, _∙_}
 use native.Mathlib.Nat.{le-antisymm}
 use native.Mathlib.Numerals.{add-one}
 use Rattle.site.specs.Soundness.{boxRight, boxesRight}
-use Rattle.site.specs.AllTo.{allTo}
-use mathlib.Core.Path.{_≡_, _∙_}
+use Rattle.lists.specs.Members.{allTo}
 use Prim.Native.Nat.{_≤_, _-_}
 use borrow.Author.Needs.{needs}
 use native.Mathlib.Omega.{arith}
@@ -19,6 +18,9 @@ abbrev μ-loop : tie.MeasureT-loop
 
 loop-holds : tie.Need-loop-holds Inv-loop μ-loop
 loop-holds c = search needs
+
+wide-requires : tie.Need-wide-requires Inv-loop μ-loop
+wide-requires c κs = search needs
 
 box-at-requires : tie.Need-box-at-requires Inv-loop μ-loop
 box-at-requires c κs = search needs
@@ -37,7 +39,7 @@ loop-less c = search needs
 
 loop-again : tie.Need-loop-again Inv-loop μ-loop
 unfolding boxRight
-loop-again c = (omega arith, simp (add-one, c .same-box .ensures, c .before .box-of .ensures, c .before .before .box-at .ensures, c .before .before .before .before .loop .inv .1))
+loop-again c = (omega arith, simp (add-one, c .same-box .ensures, c .before .box-of .ensures, c .before .before .box-at .ensures, c .before .before .before .wide .ensures, c .before .before .before .before .before .loop .inv .1))
 
 returns : tie.Need-returns Inv-loop μ-loop
 unfolding boxesRight
@@ -50,6 +52,7 @@ boxes-right-spec =
     Inv-loop
     μ-loop
     loop-holds
+    wide-requires
     box-at-requires
     box-of-requires
     same-box-requires

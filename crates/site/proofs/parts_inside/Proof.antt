@@ -4,9 +4,8 @@ use native.Mathlib.Nat.{le-antisymm}
 use native.Mathlib.Numerals.{add-one}
 use Rattle.site.specs.Tables.{firstOf, lenOf}
 use Rattle.site.specs.Soundness.{partsInside}
-use Rattle.site.specs.AllTo.{allTo}
+use Rattle.lists.specs.Members.{allTo}
 use lib.Dec.{leb}
-use mathlib.Core.Path.{_≡_, _∙_}
 use Prim.Native.Nat.{_+_, _≤_, _-_}
 use borrow.Author.Needs.{needs}
 use native.Mathlib.Omega.{arith}

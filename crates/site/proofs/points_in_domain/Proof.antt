@@ -5,8 +5,7 @@ use native.Mathlib.Numerals.{add-one}
 use Rattle.site.specs.Domain.{pointInDomain}
 use Rattle.site.specs.Tables.{pointAt}
 use Rattle.site.specs.Soundness.{pointsInDomain}
-use Rattle.site.specs.AllTo.{allTo}
-use mathlib.Core.Path.{_≡_, _∙_}
+use Rattle.lists.specs.Members.{allTo}
 use Prim.Native.Nat.{_≤_, _-_}
 use borrow.Author.Needs.{needs}
 use native.Mathlib.Omega.{arith}

@@ -1,6 +1,6 @@
 -- `site::verts_of` meets its contract. Assumes nothing.
 use mathlib.Core.Path.{_∙_}
-use Rattle.site.proofs.Accessing.{part-held}
+use Rattle.lists.proofs.Parts.{part-held}
 use borrow.Author.Needs.{needs}
 use Rattle.site.proofs.verts_of.Statement.{statement}
 use Rattle.site.proofs.verts_of.Tie as tie

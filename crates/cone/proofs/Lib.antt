@@ -1,0 +1,3 @@
+-- Laws of `cone`.
+pub mod FewSteps
+pub mod Arcs

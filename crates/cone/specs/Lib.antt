@@ -1,0 +1,2 @@
+-- What the contracts of `cone` say.
+pub mod Cone

@@ -1,0 +1,158 @@
+-- The building as a whole: the order of nearness read as edges, what the references are, and each way through `build`. Assumes nothing.
+use mathlib.Core.Path.{_≡_, refl, sym, ap, _∙_, subst}
+use mathlib.Core.Logic.{inl}
+use mathlib.Core.Bool.{Bool, true, false}
+use mathlib.Core.List.{List, [], _∷_, map}
+use Prim.Native.Nat.{ℕ, suc, _+_, _-_, _≤_, _<_}
+use native.Mathlib.Nat.{le-refl}
+use native.Mathlib.Omega.{arith}
+use lib.ListN.{length, getD, take, drop, length-map}
+use lib.Ieee.{Float, nan}
+use borrow.Author.Tests.{lt-ltb, le-ltb}
+use Rattle.lists.specs.Lists.{consIf, sumTo, sumOver, listed}
+use Rattle.lists.specs.Members.{All}
+use Rattle.lists.specs.Parts.{part, Only}
+use Rattle.lists.proofs.Sums.{sumTo-ext}
+use Rattle.lists.proofs.Joined.{listed-ext, length-listed}
+use Rattle.lists.proofs.Members.{all-map}
+use Rattle.lists.proofs.Parts.{part-from, getD-part}
+use Rattle.lists.proofs.Only.{only-refl, only-part}
+use Rattle.sorts.specs.By.{keyOrder}
+use Rattle.sorts.specs.Sort.{sort}
+use Rattle.sorts.specs.Fronts.{Ordered}
+use Rattle.sorts.proofs.Keyed.{read-order, length-order, order-below}
+use Rattle.room.specs.declared.Rooms.{Rooms}
+use Rattle.room.specs.declared.LocalEdge.{LocalEdge}
+use Rattle.room.specs.Layout.{edgesW, nearestW, eventsW, startsW, samplesW}
+use Rattle.room.specs.Records.{edgeAt, edgesIn}
+use Rattle.room.proofs.Kept.{edges-kept}
+use Rattle.index.specs.declared.AngularIndex.{AngularIndex}
+use Rattle.index.specs.declared.Indexed.{Indexed}
+use Rattle.index.specs.declared.Spans.{Spans}
+use Rattle.index.specs.Spans.{bucketsFor, headOf, spansOf, covers, edgeRefs}
+use Rattle.index.specs.Angular.{inBucket, nearer, nearestFirst, Index, bucketEdges, indexOf, refsOf}
+use Rattle.index.specs.Stands.{refsAt, indexIn, Within, Ready, overOf, Builds}
+use Rattle.index.specs.Filling.{spansAt, orderIn, refsBy, manyBy, Fillable, Filled}
+use Rattle.index.proofs.Buckets.{at-inside, many-refs, map-bucket}
+
+-- what all of a list have, those of a bucket have
+pub all-bucket : {A : Type 0} (spans : A → Spans) (P : A → Type 0) (l : List A) (b : ℕ) → All P l → All P (inBucket spans l b)
+all-bucket {A} spans P [] b h = tt
+all-bucket {A} spans P (e ∷ es) b h =
+    on (covers (spans e .first) b) (consIf (covers (spans e .second) b) e (inBucket spans es b)) (on (covers (spans e .second) b) (inBucket spans es b) (all-bucket spans P es b (h .1)))
+  where
+    on : (t : Bool) (l : List A) → All P l → All P (consIf t e l)
+    on true l k = (h .0, k)
+    on false l k = k
+
+head-few : (n : ℕ) (total : Float) → (0 < headOf n total .buckets) × (headOf n total .buckets ≤ 65536)
+unfolding headOf bucketsFor
+head-few n total = (omega arith, omega arith)
+
+made : AngularIndex → List (List LocalEdge) → Index
+made x l = record { head = x; buckets = l }
+
+module _ (k : Rooms) (floats : List Float) (words : List ℕ) (n : ℕ) (total : Float) (ready : Ready k floats words n) (w₁ : List ℕ) (at en : ℕ) (hat : at ≡ nearestW k) (hen : en ≡ eventsW k)
+    (ord : Ordered (keyOrder (part 0 (0 + n) floats) n) at en words w₁) (x : AngularIndex) (hx : x ≡ headOf n total) where
+  ordered : Only (nearestW k) (eventsW k) words w₁
+  ordered = subst (λ (q : ℕ). Only q (eventsW k) words w₁) hat (subst (λ (q : ℕ). Only at q words w₁) hen (ord .only))
+
+  pub some-few : (0 < x .buckets) × (x .buckets ≤ 65536)
+  some-few = subst (λ (h : AngularIndex). (0 < h .buckets) × (h .buckets ≤ 65536)) (sym hx) (head-few n total)
+
+  ready₁ : Ready k floats w₁ n
+  ready₁ = record { fit = record { floats-fit = ready .fit .floats-fit; words-fit = omega (arith, ready .fit .words-fit, ordered .long) }; held = ready .held }
+
+  order-is : orderIn k w₁ n ≡ keyOrder (part 0 (0 + n) floats) n
+  order-is =
+      part-from (nearestW k) n w₁ ∙ ap (λ (q : ℕ). take n (drop q w₁)) (sym hat) ∙ ap (λ (q : ℕ). take q (drop at w₁)) (sym (length-order (part 0 (0 + n) floats) n)) ∙ ord .list
+
+  -- the edges that the order names, where the numbers of the edges are kept
+  module _ (w : List ℕ) (numbers : part (edgesW k) (nearestW k) w ≡ part (edgesW k) (nearestW k) words) where
+    key-at : (i : ℕ) → i < n → getD (part 0 (0 + n) floats) i nan ≡ edgeAt k floats w i .near
+    unfolding edgeAt
+    key-at i h = let e : 0 + i ≡ i = omega arith in getD-part 0 (0 + n) floats i nan (omega arith) ∙ ap (λ (q : ℕ). getD floats q nan) e
+
+    read : map (edgeAt k floats w) (orderIn k w₁ n) ≡ nearestFirst (edgesIn k floats words n)
+    unfolding nearestFirst
+    read =
+        ap (map (edgeAt k floats w)) order-is
+        ∙ read-order (edgeAt k floats w) (λ e. e .near) (part 0 (0 + n) floats) n key-at
+        ∙ ap (sort nearer) (edges-kept k floats floats words w n (ready .held) refl numbers)
+
+    bucket-read : (b : ℕ) → map (edgeAt k floats w) (refsBy k floats x total (orderIn k w₁ n) b) ≡ bucketEdges x total (edgesIn k floats words n) b
+    unfolding bucketEdges spansAt edgeAt
+    bucket-read b = map-bucket (edgeAt k floats w) (spansOf x total) (orderIn k w₁ n) b ∙ ap (λ (l : List LocalEdge). inBucket (spansOf x total) l b) read
+
+  numbers₁ : part (edgesW k) (nearestW k) w₁ ≡ part (edgesW k) (nearestW k) words
+  numbers₁ = only-part (edgesW k) (nearestW k) ordered (inl (le-refl _))
+
+  head-is : x ≡ headOf (length (edgesIn k floats words n)) total
+  head-is = hx ∙ ap (λ (q : ℕ). headOf q total) (sym (length-listed (edgeAt k floats words) n))
+
+  -- how many references there are
+  many-is : manyBy k floats x total (orderIn k w₁ n) ≡ refsOf total (edgesIn k floats words n)
+  unfolding refsOf
+  many-is =
+      sumTo-ext (λ b. length (refsBy k floats x total (orderIn k w₁ n) b)) (λ b. length (bucketEdges x total (edgesIn k floats words n) b)) (x .buckets)
+      (λ b l. sym (length-map (refsBy k floats x total (orderIn k w₁ n) b) (edgeAt k floats w₁)) ∙ ap length (bucket-read w₁ numbers₁ b))
+      ∙ ap (λ (h : AngularIndex). sumTo (λ b. length (bucketEdges h total (edgesIn k floats words n) b)) (h .buckets)) head-is
+
+  -- the index that stands in the room
+  stands-in : (w₂ : List ℕ) → Filled k floats x total n w₁ w₂ → indexIn k floats w₂ x ≡ indexOf total (edgesIn k floats words n)
+  unfolding indexIn indexOf made
+  stands-in w₂ f =
+      let numbers : part (edgesW k) (nearestW k) w₂ ≡ part (edgesW k) (nearestW k) words = only-part (edgesW k) (nearestW k) (f .only) (inl (omega arith)) ∙ numbers₁ in
+      ap (made x) (listed-ext (λ b. map (edgeAt k floats w₂) (refsAt k w₂ b)) (bucketEdges x total (edgesIn k floats words n)) (x .buckets)
+      (λ b g. ap (map (edgeAt k floats w₂)) (f .blocks b g) ∙ bucket-read w₂ numbers b))
+      ∙ ap (λ (h : AngularIndex). made h (listed (bucketEdges h total (edgesIn k floats words n)) (h .buckets))) head-is
+
+  module _ (refs : ℕ) (hr : refs ≡ sumOver (λ i. edgeRefs (spansAt k floats x total i)) (part at (at + n) w₁)) where
+    pub refs-many : refs ≡ manyBy k floats x total (orderIn k w₁ n)
+    refs-many =
+        hr ∙ ap (λ (q : ℕ). sumOver (λ i. edgeRefs (spansAt k floats x total i)) (part q (q + n) w₁)) hat
+        ∙ sym (many-refs (spansAt k floats x total) (x .buckets) (λ i. at-inside k floats x total i (some-few .0)) (orderIn k w₁ n))
+
+    abbrev answer : Bool → Indexed
+    answer over = record { index = x; refs = refs; over = over }
+
+    over-by : overOf k (x .buckets) refs ≡ true → Builds k floats words n total (answer true) w₁
+    over-by e = record {
+      head = hx;
+      refs = refs-many ∙ many-is;
+      over = sym e;
+      stands = λ f. absurd (let z : _≡_ {A = ℕ} 0 1 = cc in omega arith);
+      sound = λ f. absurd (let z : _≡_ {A = ℕ} 0 1 = cc in omega arith);
+      between = w₁;
+      ordered = ordered;
+      filled = only-refl (startsW k) (samplesW k) w₁;
+    }
+
+    pub over-starts : k .starts ≤ x .buckets → Builds k floats words n total (answer true) w₁
+    over-starts h = over-by (rw (lt-ltb (k .starts) (x .buckets + 1) (omega arith)))
+
+    module _ (fits : x .buckets < k .starts) where
+      pub over-refs : k .refs < refs → Builds k floats words n total (answer true) w₁
+      over-refs h = over-by (rw (le-ltb (k .starts) (x .buckets + 1) (omega arith), lt-ltb (k .refs) refs h))
+
+      module _ (few : refs ≤ k .refs) where
+        pub fillable : refs ≤ 4294967295 → Fillable k floats x total n refs w₁
+        fillable small = record { ready = ready₁; some = some-few .0; starts-fit = fits; refs-fit = few; small = small; refs-are = refs-many }
+
+        pub done : (w₂ : List ℕ) → Filled k floats x total n w₁ w₂ → Builds k floats words n total (answer false) w₂
+        done w₂ f = record {
+          head = hx;
+          refs = refs-many ∙ many-is;
+          over = sym (rw (le-ltb (k .starts) (x .buckets + 1) (omega arith), le-ltb (k .refs) refs few));
+          stands = λ _. stands-in w₂ f;
+          sound = λ _. record {
+            some = some-few .0;
+            starts-in = fits;
+            refs-in = f .starts;
+            named = λ b g. rw (f .blocks b g) (all-bucket (spansAt k floats x total) (λ i. i < k .edges) (orderIn k w₁ n) b
+                (rw order-is (all-map (λ i. i < n) (λ i. i < k .edges) (λ i l. omega (arith, ready .held)) (keyOrder (part 0 (0 + n) floats) n) (order-below (part 0 (0 + n) floats) n))));
+          };
+          between = w₁;
+          ordered = ordered;
+          filled = f .only;
+        }

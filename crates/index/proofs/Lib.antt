@@ -1,0 +1,11 @@
+-- What the proofs of several functions use.
+pub mod Ways
+pub mod Walking
+pub mod Buckets
+pub mod Casts
+pub mod Puts
+pub mod Passes
+pub mod Fills
+pub mod Builds
+pub mod Kept
+pub mod Hits

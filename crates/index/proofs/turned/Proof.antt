@@ -1,0 +1,14 @@
+-- `turned`: past the seam, and not. Assumes nothing.
+use borrow.Author.Needs.{needs}
+use native.Mathlib.Omega.{arith}
+use Rattle.index.proofs.turned.Statement.{statement}
+use Rattle.index.proofs.turned.Tie as tie
+
+returns : tie.Need-returns
+returns c = rw (c .if1 .taken)
+
+returns-2 : tie.Need-returns-2
+returns-2 c = rw (c .if1 .left)
+
+pub turned-spec : {M : Type 1} → statement M
+turned-spec = tie.close (tie.spec returns returns-2)

@@ -1,0 +1,98 @@
+-- What the passes of the building ask and do: counting, summing and putting in, from the farthest edge to the nearest (`visibility.rs`, lines 503 to 528).
+-- The starts stand from `startsW` on and the references from `refsW` on. Definitions only.
+use mathlib.Core.Path.{_≡_}
+use mathlib.Core.List.{List, [], _++_}
+use Prim.Native.Nat.{ℕ, suc, _+_, _≤_, _<_}
+use lib.ListN.{length, getD, take, drop}
+use lib.Ieee.{Float}
+use Rattle.lists.specs.Lists.{consIf, sumTo, joined}
+use Rattle.lists.specs.Parts.{part, Only}
+use Rattle.tables.specs.Scatter.{State}
+use Rattle.room.specs.declared.Rooms.{Rooms}
+use Rattle.room.specs.Layout.{nearestW, startsW, refsW, samplesW, Fit}
+use Rattle.room.specs.Records.{edgeAt}
+use Rattle.index.specs.declared.AngularIndex.{AngularIndex}
+use Rattle.index.specs.declared.Spans.{Spans}
+use Rattle.index.specs.Spans.{spansOf, spansBy, covers, edgeBits}
+use Rattle.index.specs.Angular.{inBucket}
+use Rattle.index.specs.Stands.{refsAt, Ready}
+
+-- the buckets of the edge i of the room
+unfoldable pub spansAt : Rooms → List Float → AngularIndex → Float → ℕ → Spans
+unfolding edgeAt spansBy
+spansAt k floats x total i = spansOf x total (edgeAt k floats [] i)
+
+-- the first n of the order of nearness
+abbrev pub orderIn : Rooms → List ℕ → ℕ → List ℕ
+orderIn k words n = part (nearestW k) (nearestW k + n) words
+
+-- the references of the bucket b, for an order of edges
+abbrev pub refsBy : Rooms → List Float → AngularIndex → Float → List ℕ → ℕ → List ℕ
+refsBy k floats x total order b = inBucket (spansAt k floats x total) order b
+
+-- how many there are in all
+abbrev pub manyBy : Rooms → List Float → AngularIndex → Float → List ℕ → ℕ
+manyBy k floats x total order = sumTo (λ b. length (refsBy k floats x total order b)) (x .buckets)
+
+-- ---- one edge
+-- its buckets lie in the starts, and no count passes a `u32`
+pub record CountRoom (s : Spans) (starts : List ℕ) : Type 0 where
+  pub first-fits : s .first .to ≤ length starts
+  pub second-fits : s .second .to ≤ length starts
+  pub small : (b : ℕ) → 0 < edgeBits s b → getD starts b 0 + edgeBits s b ≤ 4294967295
+
+-- its buckets lie in the starts, which stand in front of the references, and each of their blocks has room
+pub record PutRoom (refs : ℕ) (s : Spans) (w : List ℕ) : Type 0 where
+  pub inside : refs ≤ length w
+  pub first-fits : s .first .to ≤ refs
+  pub second-fits : s .second .to ≤ refs
+  pub above : (b : ℕ) → edgeBits s b ≤ getD (take refs w) b 0
+  pub below : (b : ℕ) → 0 < edgeBits s b → getD (take refs w) b 0 ≤ length (drop refs w)
+
+-- the edge was put into its blocks, in front of what they hold, and their starts went down
+pub record PutBoth (refs : ℕ) (s : Spans) (id : ℕ) (w w' : List ℕ) : Type 0 where
+  pub down : (b : ℕ) → getD (take refs w') b 0 + edgeBits s b ≡ getD (take refs w) b 0
+  pub held : (h : ℕ → ℕ) (F : ℕ → List ℕ) (m : ℕ) (rest : List ℕ) → m ≤ refs → State h F m rest (take refs w) (drop refs w)
+      → ((b : ℕ) → 0 < edgeBits s b → (b < m) × (length (F b) + edgeBits s b ≤ h b))
+      → State h (λ b. consIf (covers (s .first) b) id (consIf (covers (s .second) b) id (F b))) m rest (take refs w') (drop refs w')
+
+-- ---- all edges
+-- the counting: nothing is counted yet, and no count will pass a `u32`
+pub record Counting (k : Rooms) (floats : List Float) (x : AngularIndex) (total : Float) (n : ℕ) (words : List ℕ) : Type 0 where
+  pub ready : Ready k floats words n
+  pub some : 0 < x .buckets
+  pub starts-fit : x .buckets < k .starts
+  pub small : manyBy k floats x total (orderIn k words n) ≤ 4294967295
+  pub zero : (b : ℕ) → b ≤ x .buckets → getD (drop (startsW k) words) b 0 ≡ 0
+
+pub record Counted (k : Rooms) (floats : List Float) (x : AngularIndex) (total : Float) (n : ℕ) (words words' : List ℕ) : Type 0 where
+  pub front : take (startsW k) words' ≡ take (startsW k) words
+  pub counts : (b : ℕ) → getD (drop (startsW k) words') b 0 ≡ getD (drop (startsW k) words) b 0 + length (refsBy k floats x total (orderIn k words n) b)
+
+-- the putting in: the starts are at the blocks' ends, and the references are zero
+pub record Putting (k : Rooms) (floats : List Float) (x : AngularIndex) (total : Float) (n : ℕ) (words : List ℕ) : Type 0 where
+  pub ready : Ready k floats words n
+  pub some : 0 < x .buckets
+  pub starts-fit : x .buckets < k .starts
+  pub refs-fit : manyBy k floats x total (orderIn k words n) ≤ k .refs
+  pub ends : (b : ℕ) → b < x .buckets → getD (drop (startsW k) words) b 0 ≡ sumTo (λ j. length (refsBy k floats x total (orderIn k words n) j)) (suc b)
+  pub zero : (j : ℕ) → j < manyBy k floats x total (orderIn k words n) → getD (drop (refsW k) words) j 0 ≡ 0
+
+pub record Placed (k : Rooms) (floats : List Float) (x : AngularIndex) (total : Float) (n : ℕ) (words words' : List ℕ) : Type 0 where
+  pub front : take (startsW k) words' ≡ take (startsW k) words
+  pub starts : (b : ℕ) → b < k .starts → getD (drop (startsW k) words') b 0 + length (refsBy k floats x total (orderIn k words n) b) ≡ getD (drop (startsW k) words) b 0
+  pub refs : drop (refsW k) words' ≡ joined (refsBy k floats x total (orderIn k words n)) (x .buckets) ++ drop (refsW k + manyBy k floats x total (orderIn k words n)) words
+
+-- ---- the starts and the references
+pub record Fillable (k : Rooms) (floats : List Float) (x : AngularIndex) (total : Float) (n refs : ℕ) (words : List ℕ) : Type 0 where
+  pub ready : Ready k floats words n
+  pub some : 0 < x .buckets
+  pub starts-fit : x .buckets < k .starts
+  pub refs-fit : refs ≤ k .refs
+  pub small : refs ≤ 4294967295
+  pub refs-are : refs ≡ manyBy k floats x total (orderIn k words n)
+
+pub record Filled (k : Rooms) (floats : List Float) (x : AngularIndex) (total : Float) (n : ℕ) (words words' : List ℕ) : Type 0 where
+  pub only : Only (startsW k) (samplesW k) words words'
+  pub starts : (b : ℕ) → b ≤ x .buckets → getD words' (startsW k + b) 0 ≤ k .refs
+  pub blocks : (b : ℕ) → b < x .buckets → refsAt k words' b ≡ refsBy k floats x total (orderIn k words n) b

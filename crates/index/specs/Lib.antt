@@ -1,0 +1,6 @@
+-- What the functions of `index` mean.
+pub mod Spans
+pub mod Angular
+pub mod Casting
+pub mod Stands
+pub mod Filling

@@ -1,0 +1,60 @@
+-- How an index stands in the work room: bucket starts, and behind them the references, which are places of edges in the room
+-- (`visibility.rs`, lines 482 to 490; the Rust moves the edges themselves into order of nearness, here they stay). Definitions only.
+use mathlib.Core.Path.{_≡_}
+use mathlib.Core.Bool.{Bool, false, _||_}
+use mathlib.Core.List.{List, map}
+use Prim.Native.Nat.{ℕ, suc, _+_, _≤_, _<_}
+use lib.ListN.{length, getD}
+use lib.Dec.{ltb}
+use lib.Ieee.{Float}
+use Rattle.lists.specs.Lists.{listed}
+use Rattle.lists.specs.Members.{AllBelow}
+use Rattle.lists.specs.Parts.{part, Only}
+use Rattle.room.specs.declared.Rooms.{Rooms}
+use Rattle.room.specs.declared.LocalEdge.{LocalEdge}
+use Rattle.room.specs.Layout.{nearestW, eventsW, startsW, refsW, samplesW, Fit}
+use Rattle.room.specs.Records.{edgeAt, edgesIn}
+use Rattle.index.specs.declared.AngularIndex.{AngularIndex}
+use Rattle.index.specs.declared.Indexed.{Indexed}
+use Rattle.index.specs.Spans.{headOf}
+use Rattle.index.specs.Angular.{Index, indexOf, refsOf}
+
+-- where the references of the bucket b start, in the words
+abbrev pub refsFrom : Rooms → List ℕ → ℕ → ℕ
+refsFrom k words b = refsW k + getD words (startsW k + b) 0
+
+-- the references of the bucket b
+abbrev pub refsAt : Rooms → List ℕ → ℕ → List ℕ
+refsAt k words b = part (refsFrom k words b) (refsFrom k words (suc b)) words
+
+-- the index that the room holds, for a head
+unfoldable pub indexIn : Rooms → List Float → List ℕ → AngularIndex → Index
+unfolding edgeAt
+indexIn k floats words x = record { head = x; buckets = listed (λ b. map (edgeAt k floats words) (refsAt k words b)) (x .buckets) }
+
+-- its lists lie in their stretches of the words, and each reference names one of the edges that the room has
+pub record Within (k : Rooms) (words : List ℕ) (x : AngularIndex) : Type 0 where
+  pub some : 0 < x .buckets
+  pub starts-in : x .buckets < k .starts
+  pub refs-in : (b : ℕ) → b ≤ x .buckets → getD words (startsW k + b) 0 ≤ k .refs
+  pub named : (b : ℕ) → b < x .buckets → AllBelow (k .edges) (refsAt k words b)
+
+-- what the building asks: the room is as large as stated, and so many edges fit
+pub record Ready (k : Rooms) (floats : List Float) (words : List ℕ) (n : ℕ) : Type 0 where
+  pub fit : Fit k (length floats) (length words)
+  pub held : n ≤ k .edges
+
+-- whether the starts or the references pass their entries
+abbrev pub overOf : Rooms → ℕ → ℕ → Bool
+overOf k buckets refs = ltb (k .starts) (buckets + 1) || ltb (k .refs) refs
+
+-- The building of the index of the n edges in the room. It writes the order of nearness, and, where they fit, the starts and the references
+pub record Builds (k : Rooms) (floats : List Float) (words : List ℕ) (n : ℕ) (total : Float) (r : Indexed) (words' : List ℕ) : Type 0 where
+  pub head : r .index ≡ headOf n total
+  pub refs : r .refs ≡ refsOf total (edgesIn k floats words n)
+  pub over : r .over ≡ overOf k (r .index .buckets) (r .refs)
+  pub stands : r .over ≡ false → indexIn k floats words' (r .index) ≡ indexOf total (edgesIn k floats words n)
+  pub sound : r .over ≡ false → Within k words' (r .index)
+  pub between : List ℕ
+  pub ordered : Only (nearestW k) (eventsW k) words between
+  pub filled : Only (startsW k) (samplesW k) between words'

@@ -1,0 +1,419 @@
+// The front edges by angle, and the cast of a ray: `AngularIndex` and `span_buckets` of `visibility.rs` (lines 480 to 590).
+// The edges stay where they stand in the work room. The index is an order of nearness, the starts of the buckets, and references, which are
+// places of edges: each list in its own stretch of the lent words. Every read of a cast is total.
+// Meanings: specs/Spans.antt (buckets), specs/Angular.antt (the index), specs/Casting.antt (the cast), specs/Stands.antt (where it stands).
+use geom::Reach;
+use geom::Vec2;
+use lists::wide;
+use room::Rooms;
+use site::Cast;
+ghost use mathlib.Core.Path.{_≡_};
+ghost use mathlib.Core.Bool.{true};
+ghost use mathlib.Core.List.{[], map};
+ghost use Prim.Native.Nat.{ℕ, _+_, _<_, _≤_};
+ghost use lib.ListN.{length, getD, take, drop};
+ghost use Rattle.lists.specs.Lists.{bit, sumOver};
+ghost use Rattle.lists.specs.Parts.{part};
+ghost use Rattle.tables.specs.Scatter.{Room, Put};
+ghost use Rattle.geom.specs.Segment.{raySegmentWithin};
+ghost use Rattle.room.specs.Records.{edgeAt};
+ghost use Rattle.index.specs.Spans.{bucketsFor, headOf, bucketOf, clipOf, spansBy, widthOf, covers, edgeBits, edgeRefs};
+ghost use Rattle.index.specs.Casting.{betterOf, turnedOf, noneYet, walkOf, castWithin, castOf};
+ghost use Rattle.index.specs.Stands.{indexIn, Ready, Builds};
+ghost use Rattle.index.specs.Filling.{spansAt, CountRoom, Counting, Counted, PutRoom, PutBoth, Putting, Placed, Fillable, Filled};
+
+const TAU: f64 = 6.283185307179586;
+
+// Pad so rays exactly at an endpoint still see the edge.
+const PAD: f64 = 1e-9;
+
+// The head of an index. Its lists stand in the work room.
+pub struct AngularIndex {
+    pub inv_width: f64,
+    pub buckets: u32,
+}
+
+// Buckets from one up to another, that one out. None where it ends where it begins, or before.
+pub struct Stretch {
+    pub from: usize,
+    pub to: usize,
+}
+
+// The buckets of an edge: two stretches where its span wraps past TAU.
+pub struct Spans {
+    pub first: Stretch,
+    pub second: Stretch,
+}
+
+// What the building answers: the head, how many references there are, and whether a list passes its entries.
+pub struct Indexed {
+    pub index: AngularIndex,
+    pub refs: usize,
+    pub over: bool,
+}
+
+// ---- buckets
+
+// How many buckets n edges have.
+fn buckets_for(n: usize) -> u32
+    ensures { λ r. ⌜ r ≡ bucketsFor n ⌝ }
+{
+    if n <= 8 {
+        return 16;
+    }
+    if 32768 <= n {
+        return 65536;
+    }
+    (2 * n) as u32
+}
+
+// The head of the index of n edges. `total` is the angle covered by the cone (TAU for a full circle).
+fn head(n: usize, total: f64) -> AngularIndex
+    ensures { λ r. ⌜ r ≡ headOf n total ⌝ }
+{
+    let buckets = buckets_for(n);
+    AngularIndex {
+        inv_width: buckets as f64 / total,
+        buckets,
+    }
+}
+
+// The bucket of an angle.
+fn bucket(x: AngularIndex, a: f64) -> usize
+    ensures { λ r. ⌜ (r ≡ bucketOf x a) × (r ≤ 4294967295) ⌝ }
+{
+    let b = num::to_u64(a * x.inv_width) as usize;
+    let count = wide(x.buckets);
+    if b < count {
+        return b;
+    }
+    if 0 < count {
+        return count - 1;
+    }
+    0
+}
+
+// The buckets from lo to hi, padded.
+fn clip(x: AngularIndex, total: f64, lo: f64, hi: f64) -> Stretch
+    ensures { λ r. ⌜ r ≡ clipOf x total lo hi ⌝ }
+{
+    let l = num::max(lo - PAD, 0.0);
+    let h = num::min(hi + PAD, total);
+    if l <= h {
+        return Stretch {
+            from: bucket(x, l),
+            to: bucket(x, h) + 1,
+        };
+    }
+    Stretch { from: 0, to: 0 }
+}
+
+// The buckets of an edge that covers `len` from `start` on.
+fn span_buckets(x: AngularIndex, total: f64, start: f64, len: f64) -> Spans
+    ensures { λ r. ⌜ r ≡ spansBy x total start len ⌝ }
+{
+    let end = start + len;
+    if end <= TAU {
+        return Spans {
+            first: clip(x, total, start, end),
+            second: Stretch { from: 0, to: 0 },
+        };
+    }
+    Spans {
+        first: clip(x, total, start, TAU),
+        second: clip(x, total, 0.0, end - TAU),
+    }
+}
+
+// ---- the cast
+
+// The best hit so far: the distance to beat, and the number of the edge once one is found.
+struct Best {
+    t: f64,
+    edge: u32,
+    found: bool,
+}
+
+// The two ends of an edge.
+struct Ends {
+    a: Vec2,
+    b: Vec2,
+}
+
+// The ends of the edge i: one test of its place for all four numbers. They do not go by the words.
+fn ends_at(k: Rooms, floats: &[f64], i: u32) -> Ends
+    ensures { λ r. ⌜ (r .a ≡ edgeAt k (now (floats .entry)) [] i .a) × (r .b ≡ edgeAt k (now (floats .entry)) [] i .b) ⌝ }
+{
+    let at = room::edges_f(k) + 6 * wide(i);
+    if at + 4 <= floats.len() {
+        return Ends {
+            a: Vec2 {
+                x: floats[at],
+                y: floats[at + 1],
+            },
+            b: Vec2 {
+                x: floats[at + 2],
+                y: floats[at + 3],
+            },
+        };
+    }
+    Ends {
+        a: Vec2 {
+            x: lists::at64(floats, at),
+            y: lists::at64(floats, at + 1),
+        },
+        b: Vec2 {
+            x: lists::at64(floats, at + 2),
+            y: lists::at64(floats, at + 3),
+        },
+    }
+}
+
+// The number of the edge i in the site. It does not go by the floats.
+fn number_at(k: Rooms, words: &[u32], i: u32) -> u32
+    ensures { λ r. ⌜ r ≡ edgeAt k [] (now (words .entry)) i .edge ⌝ }
+{
+    lists::at32(words, room::edges_w(k) + wide(i))
+}
+
+// The better of the best so far and the edge i, which has these ends.
+fn meet(k: Rooms, slack: f64, o: Vec2, dir: Vec2, e: Ends, words: &[u32], i: u32, b: Best) -> Best
+    ensures { λ r. ⌜ r ≡ betterOf (raySegmentWithin slack o dir (e .a) (e .b)) (edgeAt k [] (now (words .entry)) i .edge) b ⌝ }
+{
+    let best = b.t;
+    match geom::ray_segment_within(slack, o, dir, e.a, e.b) {
+        Reach::Hit(t) => {
+            if t < best {
+                return Best {
+                    t,
+                    edge: number_at(k, words, i),
+                    found: true,
+                };
+            }
+            b
+        }
+        Reach::Miss => b,
+    }
+}
+
+// The edges that the words from one place up to another name, in turn, until one is not nearer than the best.
+fn walk(k: Rooms, slack: f64, floats: &[f64], words: &[u32], from: usize, to: usize, o: Vec2, dir: Vec2, max: f64) -> Best
+    ensures { λ r. ⌜ r ≡ walkOf slack o dir (noneYet max) (map (edgeAt k (now (floats .entry)) (now (words .entry))) (part from to (now (words .entry)))) ⌝ }
+{
+    let end = if to < words.len() { to } else { words.len() };
+    let mut b = Best {
+        t: max,
+        edge: 0,
+        found: false,
+    };
+    let mut j = from;
+    while j < end {
+        let i = words[j];
+        let near = lists::at64(floats, wide(i));
+        let best = b.t;
+        if near >= best {
+            return b;
+        }
+        let e = ends_at(k, floats, i);
+        b = meet(k, slack, o, dir, e, words, i, b);
+        j += 1;
+    }
+    b
+}
+
+// The angle of a ray past the seam of a full circle, brought back.
+fn turned(angle: f64) -> f64
+    ensures { λ r. ⌜ r ≡ turnedOf angle ⌝ }
+{
+    if angle >= TAU {
+        return angle - TAU;
+    }
+    angle
+}
+
+// The nearest edge that the ray from o along dir, at the angle from the cone's start, hits within max. `slack` is that of `ray_segment_within`.
+pub fn cast_within(slack: f64, k: Rooms, x: AngularIndex, floats: &[f64], words: &[u32], o: Vec2, angle: f64, dir: Vec2, max: f64) -> Cast
+    ensures { λ r. ⌜ r ≡ castWithin slack (indexIn k (now (floats .entry)) (now (words .entry)) x) o angle dir max ⌝ }
+{
+    if x.buckets == 0 {
+        return Cast::Miss;
+    }
+    let at = room::starts_w(k) + bucket(x, num::max(turned(angle), 0.0));
+    let refs = room::refs_w(k);
+    let from = refs + wide(lists::at32(words, at));
+    let to = refs + wide(lists::at32(words, at + 1));
+    let b = walk(k, slack, floats, words, from, to, o, dir, max);
+    if b.found {
+        return Cast::Hit(b.t, b.edge);
+    }
+    Cast::Miss
+}
+
+// `AngularIndex::cast` of the Rust: the slack is 1e-9.
+pub fn cast(k: Rooms, x: AngularIndex, floats: &[f64], words: &[u32], o: Vec2, angle: f64, dir: Vec2, max: f64) -> Cast
+    ensures { λ r. ⌜ r ≡ castOf (indexIn k (now (floats .entry)) (now (words .entry)) x) o angle dir max ⌝ }
+{
+    cast_within(1e-9, k, x, floats, words, o, angle, dir, max)
+}
+
+// ---- the building
+
+// How many buckets a stretch has.
+fn width(s: Stretch) -> usize
+    ensures { λ r. ⌜ r ≡ widthOf s ⌝ }
+{
+    if s.from < s.to {
+        return s.to - s.from;
+    }
+    0
+}
+
+// The buckets of the edge i. They do not go by the words.
+fn edge_spans(k: Rooms, x: AngularIndex, total: f64, floats: &[f64], i: u32) -> Spans
+    ensures { λ r. ⌜ r ≡ spansAt k (now (floats .entry)) x total i ⌝ }
+{
+    let at = room::edges_f(k) + 6 * wide(i);
+    span_buckets(x, total, lists::at64(floats, at + 4), lists::at64(floats, at + 5))
+}
+
+// How many references the edges of the order have.
+fn count_refs(k: Rooms, x: AngularIndex, total: f64, floats: &[f64], order: &[u32]) -> usize
+    requires { ⌜ (0 < x .buckets) × (x .buckets ≤ 65536) × (length (now order) ≤ 4294967295) ⌝ }
+    ensures { λ r. ⌜ r ≡ sumOver (λ i. edgeRefs (spansAt k (now (floats .entry)) x total i)) (now (order .entry)) ⌝ }
+{
+    let mut refs: usize = 0;
+    let mut r = order.len();
+    while 0 < r {
+        r -= 1;
+        let s = edge_spans(k, x, total, floats, order[r]);
+        refs += width(s.first) + width(s.second);
+    }
+    refs
+}
+
+// One more at each bucket of a stretch.
+fn count_stretch(starts: &mut [u32], s: Stretch)
+    requires { ⌜ (s .to ≤ length (now starts)) × ((b : ℕ) → covers s b ≡ true → getD (now starts) b 0 < 4294967295) ⌝ }
+    ensures { λ _. ⌜ ((b : ℕ) → getD (now (starts .exit)) b 0 ≡ getD (now (starts .entry)) b 0 + bit (covers s b)) ⌝ }
+{
+    if s.from < s.to {
+        tables::count_row(starts, s.from, s.to);
+    }
+}
+
+// One more at each bucket of an edge.
+fn count_edge(starts: &mut [u32], s: Spans)
+    requires { ⌜ CountRoom s (now starts) ⌝ }
+    ensures { λ _. ⌜ ((b : ℕ) → getD (now (starts .exit)) b 0 ≡ getD (now (starts .entry)) b 0 + edgeBits s b) ⌝ }
+{
+    count_stretch(&mut *starts, s.second);
+    count_stretch(starts, s.first);
+}
+
+// Counts, at each bucket, the edges that cover it.
+fn count_all(k: Rooms, x: AngularIndex, total: f64, floats: &[f64], n: usize, words: &mut [u32])
+    requires { ⌜ Counting k (now floats) x total n (now words) ⌝ }
+    ensures { λ _. ⌜ Counted k (now (floats .entry)) x total n (now (words .entry)) (now (words .exit)) ⌝ }
+{
+    let order = room::nearest_w(k);
+    let starts = room::starts_w(k);
+    let mut r = n;
+    while 0 < r {
+        let i = words[order + (r - 1)];
+        let s = edge_spans(k, x, total, floats, i);
+        count_edge(&mut words[starts..], s);
+        r -= 1;
+    }
+}
+
+// Puts id into the blocks of the buckets of a stretch, each in front of what its block holds. The blocks' starts stand in front, the references
+// from `refs` on.
+fn put_stretch(w: &mut [u32], refs: usize, s: Stretch, id: u32)
+    requires { ⌜ (s .to ≤ refs) × (refs ≤ length (now w)) × Room (covers s) (take refs (now w)) (drop refs (now w)) ⌝ }
+    ensures { λ _. ⌜ Put (covers s) id (take refs (now (w .entry))) (drop refs (now (w .entry))) (take refs (now (w .exit))) (drop refs (now (w .exit))) ⌝ }
+{
+    let to = s.to;
+    let mut b = s.from;
+    while b < to {
+        let at = w[b] - 1;
+        w[b] = at;
+        w[refs + wide(at)] = id;
+        b += 1;
+    }
+}
+
+// Puts id into the blocks of the buckets of an edge.
+fn put_edge(w: &mut [u32], refs: usize, s: Spans, id: u32)
+    requires { ⌜ PutRoom refs s (now w) ⌝ }
+    ensures { λ _. ⌜ PutBoth refs s id (now (w .entry)) (now (w .exit)) ⌝ }
+{
+    put_stretch(&mut *w, refs, s.second, id);
+    put_stretch(w, refs, s.first, id);
+}
+
+// Puts every edge into the blocks of its buckets, from the farthest to the nearest, so that the nearest is first in each block.
+fn put_all(k: Rooms, x: AngularIndex, total: f64, floats: &[f64], n: usize, words: &mut [u32])
+    requires { ⌜ Putting k (now floats) x total n (now words) ⌝ }
+    ensures { λ _. ⌜ Placed k (now (floats .entry)) x total n (now (words .entry)) (now (words .exit)) ⌝ }
+{
+    let order = room::nearest_w(k);
+    let starts = room::starts_w(k);
+    let refs = wide(k.starts);
+    let mut r = n;
+    while 0 < r {
+        let i = words[order + (r - 1)];
+        let s = edge_spans(k, x, total, floats, i);
+        put_edge(&mut words[starts..], refs, s, i);
+        r -= 1;
+    }
+}
+
+// Writes the starts and the references, which fit.
+fn fill(k: Rooms, x: AngularIndex, total: f64, floats: &[f64], n: usize, refs: usize, words: &mut [u32])
+    requires { ⌜ Fillable k (now floats) x total n refs (now words) ⌝ }
+    ensures { λ _. ⌜ Filled k (now (floats .entry)) x total n (now (words .entry)) (now (words .exit)) ⌝ }
+{
+    let count = wide(x.buckets);
+    let starts = room::starts_w(k);
+    let starts_end = starts + count + 1;
+    let at = room::refs_w(k);
+    let end = at + refs;
+    lists::clear32(&mut words[starts..starts_end]);
+    lists::clear32(&mut words[at..end]);
+    count_all(k, x, total, floats, n, &mut *words);
+    tables::sum_up(&mut words[starts..starts_end], count);
+    put_all(k, x, total, floats, n, words);
+}
+
+// `AngularIndex::build` of the Rust: the n edges of the room by angle. `total` is the angle covered by the cone (TAU for a full circle). Where the
+// starts or the references pass their entries they are not written.
+pub fn build(k: Rooms, n: usize, total: f64, floats: &[f64], words: &mut [u32]) -> Indexed
+    requires { ⌜ Ready k (now floats) (now words) n ⌝ }
+    ensures { λ r. ⌜ Builds k (now (floats .entry)) (now (words .entry)) n total r (now (words .exit)) ⌝ }
+{
+    let at = room::nearest_w(k);
+    let end = at + n;
+    sorts::order_keys(floats, &mut *words, 0, n, at, room::events_w(k));
+    let x = head(n, total);
+    let refs = count_refs(k, x, total, floats, &words[at..end]);
+    if k.starts <= x.buckets {
+        return Indexed {
+            index: x,
+            refs,
+            over: true,
+        };
+    }
+    if wide(k.refs) < refs {
+        return Indexed {
+            index: x,
+            refs,
+            over: true,
+        };
+    }
+    fill(k, x, total, floats, n, refs, words);
+    Indexed {
+        index: x,
+        refs,
+        over: false,
+    }
+}

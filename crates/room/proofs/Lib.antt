@@ -1,0 +1,3 @@
+-- Laws of `room`.
+pub mod Puts
+pub mod Kept

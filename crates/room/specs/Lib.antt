@@ -1,0 +1,3 @@
+-- What the contracts of `room` say.
+pub mod Layout
+pub mod Records

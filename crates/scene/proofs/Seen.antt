@@ -1,0 +1,79 @@
+-- What `polygon_at` and `cast_ray` answer, in words. The polygon at a point is in the point's cell and passes both tests, and nothing higher does. The cells that a
+-- cast counts are those of its walk: none twice, each a cell of the grid, at most columns + rows - 1 (demand 3). Assumes nothing.
+use Prim.Native.Nat.{ℕ}
+use mathlib.Core.Path.{_≡_, refl, sym, _∙_}
+use mathlib.Core.Bool.{Bool, true, false, cond}
+use mathlib.Core.List.{List}
+use native.Mathlib.Omega.{arith}
+use lib.ListN.{length}
+use lib.Ieee.{Float}
+use Rattle.geom.specs.declared.Vec2.{Vec2}
+use Rattle.grid.specs.Query.{itemsAt}
+use Rattle.walk.proofs.EnteredOnce.{Once}
+use Rattle.site.specs.declared.Site.{Site}
+use Rattle.site.specs.declared.Cast.{Cast}
+use Rattle.site.specs.Tables.{Tables}
+use Rattle.site.specs.Domain.{pointInDomain, loadOf, loadPointOf}
+use Rattle.site.specs.Soundness.{soundOf}
+use Rattle.sight.specs.declared.Whose.{Whose}
+use Rattle.sight.specs.declared.Whose.the-variants as whose
+use Rattle.sight.specs.declared.Sighting.{Sighting}
+use Rattle.sight.specs.Holding.{holdsPoint}
+use Rattle.sight.specs.Holding as holding
+use Rattle.sight.specs.Casting as casting
+use Rattle.sight.proofs.Highest.{TopMost, top-most}
+use Rattle.sight.proofs.Cells.{castCells, cells-counted, cells-once}
+use Rattle.scene.specs.Asked.{asked, rayInDomain}
+use Rattle.scene.specs.Answers.{foundFrom, polygonAtOf, lookFrom, castRayOf}
+use Rattle.scene.specs.declared.Found.{Found}
+use Rattle.scene.specs.declared.Found.the-variants as found
+use Rattle.scene.specs.declared.Look.{Look}
+use Rattle.scene.specs.declared.Look.the-variants as look
+
+-- ---- `polygon_at`
+-- the answer without a refusal, as what the cell holds
+abbrev pub wasFound : Whose → Found
+wasFound (whose.Id k) = found.Id k
+wasFound whose.Nobody = found.Nobody
+
+found-by : (w v : Whose) (s i : Bool) → cond s (cond i (foundFrom w) (found.Refused 1)) (found.Refused 6) ≡ wasFound v → w ≡ v
+unfolding foundFrom
+found-by (whose.Id j) (whose.Id k) true true e = let h : j ≡ k = cc in rw h
+found-by (whose.Id j) whose.Nobody true true e = let z : _≡_ {A = ℕ} 0 1 = cc in absurd (omega arith)
+found-by whose.Nobody (whose.Id k) true true e = let z : _≡_ {A = ℕ} 0 1 = cc in absurd (omega arith)
+found-by whose.Nobody whose.Nobody true true e = refl
+found-by w (whose.Id k) true false e = let z : _≡_ {A = ℕ} 0 1 = cc in absurd (omega arith)
+found-by w whose.Nobody true false e = let z : _≡_ {A = ℕ} 0 1 = cc in absurd (omega arith)
+found-by w (whose.Id k) false i e = let z : _≡_ {A = ℕ} 0 1 = cc in absurd (omega arith)
+found-by w whose.Nobody false i e = let z : _≡_ {A = ℕ} 0 1 = cc in absurd (omega arith)
+
+module _ (site : Site) (t : Tables) (p : Vec2) where
+  found-is : (v : Whose) → polygonAtOf site t p ≡ wasFound v
+      → holding.polygonAtOf (site .grid) (t .points) (t .boxes) (t .polygons) (t .starts) (t .items) (loadPointOf p) ≡ v
+  unfolding polygonAtOf asked
+  found-is v e = found-by _ v (soundOf site t) (pointInDomain p) e
+
+  pub found-top-most : (v : Whose) → polygonAtOf site t p ≡ wasFound v
+      → TopMost (holdsPoint (t .points) (t .boxes) (t .polygons) (loadPointOf p)) (itemsAt (site .grid) (loadPointOf p) (t .starts) (t .items)) v
+  found-top-most v e = rw (found-is v e) at (top-most (site .grid) (t .points) (t .boxes) (t .polygons) (t .starts) (t .items) (loadPointOf p))
+
+-- ---- `cast_ray`
+seen-by : (s : Sighting) (hit : Cast) (n : ℕ) (a b : Bool) → cond a (cond b (lookFrom s) (look.Refused 1)) (look.Refused 6) ≡ look.Seen hit n → n ≡ s .cells
+seen-by s hit n true true e = cc
+seen-by s hit n true false e = let z : _≡_ {A = ℕ} 0 1 = cc in absurd (omega arith)
+seen-by s hit n false b e = let z : _≡_ {A = ℕ} 0 1 = cc in absurd (omega arith)
+
+module _ (site : Site) (t : Tables) (o d : Vec2) (len : Float) where
+  -- the cells that the cast enters, in order
+  abbrev pub seenCells : List ℕ
+  seenCells = castCells (site .grid) (t .points) (t .boxes) (t .polygons) (t .starts) (t .items) (loadPointOf o) (loadPointOf d) (loadOf len)
+
+  pub seen-counted : (hit : Cast) (n : ℕ) → castRayOf site t o d len ≡ look.Seen hit n → n ≡ length seenCells
+  unfolding castRayOf asked
+  seen-counted hit n e =
+      seen-by (casting.castRayOf (site .grid) (t .points) (t .boxes) (t .polygons) (t .starts) (t .items) (loadPointOf o) (loadPointOf d) (loadOf len)) hit n
+      (soundOf site t) (rayInDomain o d len) e
+      ∙ cells-counted (site .grid) (t .points) (t .boxes) (t .polygons) (t .starts) (t .items) (loadPointOf o) (loadPointOf d) (loadOf len)
+
+  pub seen-once : Once (site .grid) seenCells
+  seen-once = cells-once (site .grid) (t .points) (t .boxes) (t .polygons) (t .starts) (t .items) (loadPointOf o) (loadPointOf d) (loadOf len)

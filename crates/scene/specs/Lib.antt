@@ -1,0 +1,4 @@
+-- What the functions of `scene` mean.
+pub mod Asked
+pub mod Answers
+pub mod Stamping

@@ -1,0 +1,24 @@
+-- Demand 3 for the cast: the cells that it counts are the cells of its walk, none is entered twice, each is a cell of the grid, and there are at most
+-- columns + rows - 1. Assumes nothing.
+use mathlib.Core.Path.{_≡_, sym}
+use mathlib.Core.List.{List}
+use Prim.Native.Nat.{ℕ}
+use lib.ListN.{length}
+use lib.Ieee.{Float}
+use Rattle.geom.specs.declared.Vec2.{Vec2}
+use Rattle.grid.specs.declared.Grid.{Grid}
+use Rattle.walk.specs.Tours.{rayCells}
+use Rattle.walk.proofs.EnteredOnce.{Once, entered-once, counted}
+use Rattle.sight.specs.Casting.{rayOf, looker, lookFirst, sightingOf, castRayOf}
+
+-- the cells that a cast enters, in order
+abbrev pub castCells : Grid → List Float → List Float → List ℕ → List ℕ → List ℕ → Vec2 → Vec2 → Float → List ℕ
+castCells g points boxes polygons starts items o d len = rayCells (looker (rayOf o d) points boxes polygons starts items) g o d len (lookFirst len)
+
+module _ (g : Grid) (points boxes : List Float) (polygons starts items : List ℕ) (o d : Vec2) (len : Float) where
+  pub cells-counted : castRayOf g points boxes polygons starts items o d len .cells ≡ length (castCells g points boxes polygons starts items o d len)
+  unfolding castRayOf sightingOf
+  cells-counted = sym (counted (looker (rayOf o d) points boxes polygons starts items) g o d len (lookFirst len))
+
+  pub cells-once : Once g (castCells g points boxes polygons starts items o d len)
+  cells-once = entered-once (looker (rayOf o d) points boxes polygons starts items) g o d len (lookFirst len)

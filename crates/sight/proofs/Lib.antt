@@ -1,0 +1,5 @@
+-- Laws of `sight`, and its theorems.
+pub mod Ways
+pub mod Looking
+pub mod Highest
+pub mod Cells

@@ -1,0 +1,4 @@
+-- What the functions of `sight` mean.
+pub mod Slabs
+pub mod Holding
+pub mod Casting

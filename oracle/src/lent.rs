@@ -1,0 +1,349 @@
+//! The proved functions over sites, as crate `exports_scene` hands them to C
+//! (crates/exports_scene/src/lib.rt), each behind a safe function.
+//!
+//! Nothing checks these declarations against the Rattle source: keep the two side by side. None of the
+//! functions has a `requires`, so every content of every slice is allowed.
+
+/// Six floats and five counts: width, height, the grid's origin, cell and inverse; columns, rows,
+/// polygons, points and items.
+#[derive(Clone, Copy, Debug, PartialEq)]
+pub struct Head {
+    pub floats: [f64; 6],
+    pub counts: [u32; 5],
+}
+
+/// A site as it is lent: the head and the six tables.
+#[derive(Clone)]
+pub struct Lent {
+    pub head: Head,
+    pub points: Vec<f64>,
+    pub boxes: Vec<f64>,
+    pub polygons: Vec<u32>,
+    pub owners: Vec<u32>,
+    pub starts: Vec<u32>,
+    pub items: Vec<u32>,
+}
+
+/// How long each of the six tables is lent.
+#[derive(Clone, Copy, Debug)]
+pub struct Rooms {
+    pub points: usize,
+    pub boxes: usize,
+    pub polygons: usize,
+    pub owners: usize,
+    pub starts: usize,
+    pub items: usize,
+}
+
+macro_rules! with_site {
+    ($(fn $name:ident($($arg:ident: $t:ty),*);)*) => {
+        unsafe extern "C" {
+            $(fn $name(
+                head: &[f64; 6], counts: &[u32; 5],
+                points: *const f64, points_len: usize,
+                boxes: *const f64, boxes_len: usize,
+                polygons: *const u32, polygons_len: usize,
+                owners: *const u32, owners_len: usize,
+                starts: *const u32, starts_len: usize,
+                items: *const u32, items_len: usize,
+                $($arg: $t),*
+            ) -> u32;)*
+        }
+    };
+}
+
+with_site! {
+    fn bf_scene_is_sound();
+    fn bf_scene_polygons_near(b: &[f64; 4], marks: *mut u32, marks_len: usize, epoch: &mut u32,
+        ids: *mut u32, ids_len: usize, tally: &mut [u64; 2]);
+    fn bf_scene_items_at_number(x: f64, y: f64, number: &mut u64);
+    fn bf_scene_item_at(x: f64, y: f64, i: usize);
+    fn bf_scene_polygon_at(x: f64, y: f64, found: &mut [u32; 2]);
+    fn bf_scene_cast_ray(ox: f64, oy: f64, dx: f64, dy: f64, length: f64, t: &mut f64, found: &mut [u64; 3]);
+    fn bf_scene_edge(edge: u32, ends: &mut [f64; 4]);
+    fn bf_scene_edge_end(edge: u32, end: &mut u32);
+    fn bf_scene_edge_owner(edge: u32, owner: &mut u32);
+    fn bf_scene_polygon(id: u32, place: &mut [u32; 2], b: &mut [f64; 4]);
+    fn bf_scene_polygon_vertices_number(id: u32, number: &mut u64);
+    fn bf_scene_bounds(b: &mut [f64; 4]);
+    fn bf_scene_width(width: &mut f64);
+    fn bf_scene_height(height: &mut f64);
+    fn bf_scene_dims(dims: &mut [u32; 2]);
+    fn bf_scene_new_stamps(marks: *mut u32, marks_len: usize, epoch: &mut u32);
+}
+unsafe extern "C" {
+    fn bf_scene_polygon_vertex(
+        head: &[f64; 6],
+        counts: &[u32; 5],
+        points: *const f64,
+        points_len: usize,
+        boxes: *const f64,
+        boxes_len: usize,
+        polygons: *const u32,
+        polygons_len: usize,
+        owners: *const u32,
+        owners_len: usize,
+        starts: *const u32,
+        starts_len: usize,
+        items: *const u32,
+        items_len: usize,
+        id: u32,
+        i: usize,
+    ) -> f64;
+}
+with_site! {
+    fn bf_inner_polygon_at(x: f64, y: f64, found: &mut [u32; 2]);
+    fn bf_inner_cast_ray(ox: f64, oy: f64, dx: f64, dy: f64, length: f64, t: &mut f64, found: &mut [u64; 3]);
+}
+
+#[link(name = "exports_scene", kind = "static")]
+unsafe extern "C" {
+    fn bf_scene_new(
+        width: f64,
+        height: f64,
+        given: *const f64,
+        given_len: usize,
+        lens: *const u32,
+        lens_len: usize,
+        points: *mut f64,
+        points_len: usize,
+        boxes: *mut f64,
+        boxes_len: usize,
+        polygons: *mut u32,
+        polygons_len: usize,
+        owners: *mut u32,
+        owners_len: usize,
+        starts: *mut u32,
+        starts_len: usize,
+        items: *mut u32,
+        items_len: usize,
+        head: &mut [f64; 6],
+        counts: &mut [u32; 5],
+    ) -> u32;
+}
+
+/// Calls a function of a site, its head and tables in front.
+macro_rules! ask {
+    ($f:ident, $site:expr $(, $arg:expr)*) => {{
+        let s = $site;
+        // SAFETY: pointers and lengths are those of slices that outlive the call, and the function
+        // has no `requires`.
+        unsafe {
+            $f(
+                &s.head.floats, &s.head.counts,
+                s.points.as_ptr(), s.points.len(),
+                s.boxes.as_ptr(), s.boxes.len(),
+                s.polygons.as_ptr(), s.polygons.len(),
+                s.owners.as_ptr(), s.owners.len(),
+                s.starts.as_ptr(), s.starts.len(),
+                s.items.as_ptr(), s.items.len()
+                $(, $arg)*
+            )
+        }
+    }};
+}
+
+/// What outputs hold before a call, so that a cell that is not written shows.
+pub const PATTERN: u32 = 0xA5A5_A5A5;
+const FLOAT: f64 = 0.123_456_789;
+
+impl Lent {
+    /// Tables of these lengths, filled with a pattern.
+    pub fn blank(rooms: Rooms) -> Self {
+        Self {
+            head: Head {
+                floats: [FLOAT; 6],
+                counts: [PATTERN; 5],
+            },
+            points: vec![FLOAT; rooms.points],
+            boxes: vec![FLOAT; rooms.boxes],
+            polygons: vec![PATTERN; rooms.polygons],
+            owners: vec![PATTERN; rooms.owners],
+            starts: vec![PATTERN; rooms.starts],
+            items: vec![PATTERN; rooms.items],
+        }
+    }
+
+    pub fn build(&mut self, (width, height): (f64, f64), given: &[f64], lens: &[u32]) -> u32 {
+        // SAFETY: pointers and lengths are those of slices that outlive the call, and the function
+        // has no `requires`.
+        unsafe {
+            bf_scene_new(
+                width,
+                height,
+                given.as_ptr(),
+                given.len(),
+                lens.as_ptr(),
+                lens.len(),
+                self.points.as_mut_ptr(),
+                self.points.len(),
+                self.boxes.as_mut_ptr(),
+                self.boxes.len(),
+                self.polygons.as_mut_ptr(),
+                self.polygons.len(),
+                self.owners.as_mut_ptr(),
+                self.owners.len(),
+                self.starts.as_mut_ptr(),
+                self.starts.len(),
+                self.items.as_mut_ptr(),
+                self.items.len(),
+                &mut self.head.floats,
+                &mut self.head.counts,
+            )
+        }
+    }
+
+    pub fn is_sound(&self) -> bool {
+        ask!(bf_scene_is_sound, self) != 0
+    }
+
+    /// The status, ids written and entries read.
+    pub fn polygons_near(
+        &self,
+        b: &[f64; 4],
+        marks: &mut [u32],
+        epoch: &mut u32,
+        ids: &mut [u32],
+    ) -> (u32, [u64; 2]) {
+        let mut tally = [u64::MAX; 2];
+        let status = ask!(
+            bf_scene_polygons_near,
+            self,
+            b,
+            marks.as_mut_ptr(),
+            marks.len(),
+            epoch,
+            ids.as_mut_ptr(),
+            ids.len(),
+            &mut tally
+        );
+        (status, tally)
+    }
+
+    /// The status and the number of ids.
+    pub fn items_at_number(&self, (x, y): (f64, f64)) -> (u32, u64) {
+        let mut number = u64::MAX;
+        (
+            ask!(bf_scene_items_at_number, self, x, y, &mut number),
+            number,
+        )
+    }
+
+    /// The i-th id of the point's cell, 0 past the last and on refusal.
+    pub fn item_at(&self, (x, y): (f64, f64), i: usize) -> u32 {
+        ask!(bf_scene_item_at, self, x, y, i)
+    }
+
+    /// The status; whether there is one, and which.
+    pub fn polygon_at(&self, (x, y): (f64, f64)) -> (u32, [u32; 2]) {
+        let mut found = [PATTERN; 2];
+        (ask!(bf_scene_polygon_at, self, x, y, &mut found), found)
+    }
+
+    /// The status and the distance; whether there is a hit, its edge, and cells entered.
+    pub fn cast_ray(&self, o: (f64, f64), d: (f64, f64), length: f64) -> (u32, f64, [u64; 3]) {
+        let (mut t, mut found) = (FLOAT, [u64::MAX; 3]);
+        let status = ask!(
+            bf_scene_cast_ray,
+            self,
+            o.0,
+            o.1,
+            d.0,
+            d.1,
+            length,
+            &mut t,
+            &mut found
+        );
+        (status, t, found)
+    }
+
+    /// The same without the tests.
+    pub fn inner_polygon_at(&self, (x, y): (f64, f64)) -> [u32; 2] {
+        let mut found = [PATTERN; 2];
+        ask!(bf_inner_polygon_at, self, x, y, &mut found);
+        found
+    }
+
+    pub fn inner_cast_ray(&self, o: (f64, f64), d: (f64, f64), length: f64) -> (f64, [u64; 3]) {
+        let (mut t, mut found) = (FLOAT, [u64::MAX; 3]);
+        ask!(
+            bf_inner_cast_ray,
+            self,
+            o.0,
+            o.1,
+            d.0,
+            d.1,
+            length,
+            &mut t,
+            &mut found
+        );
+        (t, found)
+    }
+
+    pub fn edge(&self, edge: u32) -> (u32, [f64; 4]) {
+        let mut ends = [FLOAT; 4];
+        (ask!(bf_scene_edge, self, edge, &mut ends), ends)
+    }
+
+    pub fn edge_end(&self, edge: u32) -> (u32, u32) {
+        let mut end = PATTERN;
+        (ask!(bf_scene_edge_end, self, edge, &mut end), end)
+    }
+
+    pub fn edge_owner(&self, edge: u32) -> (u32, u32) {
+        let mut owner = PATTERN;
+        (ask!(bf_scene_edge_owner, self, edge, &mut owner), owner)
+    }
+
+    /// First point, number of points and box.
+    pub fn polygon(&self, id: u32) -> (u32, [u32; 2], [f64; 4]) {
+        let (mut place, mut b) = ([PATTERN; 2], [FLOAT; 4]);
+        let status = ask!(bf_scene_polygon, self, id, &mut place, &mut b);
+        (status, place, b)
+    }
+
+    /// The status and how many points a polygon has.
+    pub fn polygon_vertices_number(&self, id: u32) -> (u32, u64) {
+        let mut number = u64::MAX;
+        (
+            ask!(bf_scene_polygon_vertices_number, self, id, &mut number),
+            number,
+        )
+    }
+
+    /// The i-th number of a polygon's points, NaN past the last and on refusal.
+    pub fn polygon_vertex(&self, id: u32, i: usize) -> f64 {
+        ask!(bf_scene_polygon_vertex, self, id, i)
+    }
+
+    pub fn bounds(&self) -> (u32, [f64; 4]) {
+        let mut b = [FLOAT; 4];
+        (ask!(bf_scene_bounds, self, &mut b), b)
+    }
+
+    pub fn width(&self) -> (u32, f64) {
+        let mut width = FLOAT;
+        (ask!(bf_scene_width, self, &mut width), width)
+    }
+
+    pub fn height(&self) -> (u32, f64) {
+        let mut height = FLOAT;
+        (ask!(bf_scene_height, self, &mut height), height)
+    }
+
+    /// Columns and rows.
+    pub fn dims(&self) -> (u32, [u32; 2]) {
+        let mut dims = [PATTERN; 2];
+        (ask!(bf_scene_dims, self, &mut dims), dims)
+    }
+
+    pub fn new_stamps(&self, marks: &mut [u32], epoch: &mut u32) -> u32 {
+        ask!(
+            bf_scene_new_stamps,
+            self,
+            marks.as_mut_ptr(),
+            marks.len(),
+            epoch
+        )
+    }
+}

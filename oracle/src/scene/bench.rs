@@ -1,0 +1,204 @@
+//! Timings of questions on random sites of 2000 by 2000: with the test of the tables that each call
+//! begins with, and without it, beside the Rust as published.
+
+use super::given::{self, Given};
+use crate::lent::Lent;
+use crate::sites::Plan;
+use crate::util::floats::some;
+use crate::util::rng::SplitMix64;
+use crate::util::timing::{Bench, Limit};
+use std::cell::RefCell;
+use std::hint::black_box;
+
+const SIZES: [usize; 4] = [100, 500, 2_000, 4_096];
+const SIDE: f64 = 2_000.0;
+const QUESTIONS: usize = 1_024;
+/// Calls of a run where each takes long.
+const FEW: usize = 8;
+
+const LIMIT: Limit = Limit::Times(1.5);
+
+struct Timed {
+    given: Given,
+    site: Lent,
+    rust: plain::Scene,
+}
+
+impl Timed {
+    fn new(polygons: usize) -> Self {
+        let config = plain::SceneConfig {
+            width: SIDE,
+            height: SIDE,
+            polygon_count: polygons,
+            seed: 0x5EED,
+        };
+        let rust = plain::Scene::random(&config);
+        let ring = |id: usize| {
+            rust.polygon_vertices(id as u32)
+                .iter()
+                .map(|v| (v.x, v.y))
+                .collect()
+        };
+        let plan = Plan {
+            size: (SIDE, SIDE),
+            rings: (0..polygons).map(ring).collect(),
+        };
+        let given = Given::new(&plan);
+        let mut site = Lent::blank(given::rooms(&given::of_scene(&plan.scene())));
+        let status = site.build(given.size, &given.points, &given.lens);
+        assert!(status == 0, "room enough");
+        Self { given, site, rust }
+    }
+}
+
+pub fn bench(table: &mut Bench) {
+    let r = &mut SplitMix64::new(1_901);
+    for polygons in SIZES {
+        let timed = Timed::new(polygons);
+        building(table, &timed, polygons);
+        sound(table, &timed, polygons);
+        polygon_at(table, r, &timed, polygons);
+        cast_ray(table, r, &timed, polygons);
+        near(table, r, &timed, polygons);
+    }
+}
+
+fn building(table: &mut Bench, timed: &Timed, polygons: usize) {
+    let site = RefCell::new(timed.site.clone());
+    let given = &timed.given;
+    let ours = |[w]: [f64; 1]| {
+        u64::from(
+            site.borrow_mut()
+                .build((w, SIDE), &given.points, &given.lens),
+        )
+    };
+    let points: Vec<Vec<plain::Vec2>> = (0..polygons)
+        .map(|id| timed.rust.polygon_vertices(id as u32).to_vec())
+        .collect();
+    let rust = |[w]: [f64; 1]| {
+        let descs = points.iter().map(|p| plain::PolygonDesc::new(p.clone()));
+        black_box(plain::Scene::new(w, SIDE, descs))
+            .polygons()
+            .len() as u64
+    };
+    table.add(
+        &format!("`new`, {polygons} polygons"),
+        Limit::None,
+        &[[SIDE]; FEW],
+        ours,
+        rust,
+    );
+}
+
+/// The Rust has no such test: beside it stands a pass that reads every table once.
+fn sound(table: &mut Bench, timed: &Timed, polygons: usize) {
+    let ours = |[_]: [f64; 1]| u64::from(black_box(&timed.site).is_sound());
+    let rust = |[_]: [f64; 1]| {
+        let s = black_box(&timed.site);
+        let floats = s.points.iter().chain(&s.boxes).fold(0.0, |a, b| a + b);
+        let words = s
+            .polygons
+            .iter()
+            .chain(&s.owners)
+            .chain(&s.starts)
+            .chain(&s.items);
+        words.fold(floats.to_bits(), |a, &b| a ^ u64::from(b))
+    };
+    table.add(
+        &format!("the table test beside a sum of the tables, {polygons} polygons"),
+        Limit::None,
+        &[[0.0]; 64],
+        ours,
+        rust,
+    );
+}
+
+fn polygon_at(table: &mut Bench, r: &mut SplitMix64, timed: &Timed, polygons: usize) {
+    let points: Vec<[f64; 2]> = some(QUESTIONS, || [r.between(0.0, SIDE), r.between(0.0, SIDE)]);
+    let called = black_box(plain::Scene::polygon_at as fn(&_, _) -> _);
+    let rust = |[x, y]: [f64; 2]| {
+        let id: Option<u32> = called(&timed.rust, plain::Vec2::new(x, y));
+        id.map_or(0, |id| u64::from(id) + 1)
+    };
+    let inner = |[x, y]: [f64; 2]| u64::from(timed.site.inner_polygon_at((x, y))[1]);
+    table.add(
+        &format!("`polygon_at` without the table test, {polygons} polygons"),
+        LIMIT,
+        &points,
+        inner,
+        rust,
+    );
+    let ours = |[x, y]: [f64; 2]| u64::from(timed.site.polygon_at((x, y)).1[1]);
+    table.add(
+        &format!("`polygon_at`, {polygons} polygons"),
+        Limit::None,
+        &points[..FEW],
+        ours,
+        rust,
+    );
+}
+
+fn cast_ray(table: &mut Bench, r: &mut SplitMix64, timed: &Timed, polygons: usize) {
+    for length in [100.0, 1_000.0] {
+        let rays: Vec<[f64; 5]> = some(QUESTIONS, || {
+            let (x, y) = (r.between(0.0, SIDE), r.between(0.0, SIDE));
+            let (dx, dy) = (r.between(-1.0, 1.0), r.between(-1.0, 1.0));
+            let n = (dx * dx + dy * dy).sqrt().max(1e-9);
+            [x, y, dx / n, dy / n, length]
+        });
+        let called = black_box(plain::Scene::cast_ray as fn(&_, _, _, _) -> _);
+        let rust = |[ox, oy, dx, dy, t]: [f64; 5]| {
+            let (o, d) = (plain::Vec2::new(ox, oy), plain::Vec2::new(dx, dy));
+            let hit: Option<plain::RayHit> = called(&timed.rust, o, d, t);
+            hit.map_or(0, |h| h.t.to_bits())
+        };
+        let inner = |[ox, oy, dx, dy, t]: [f64; 5]| {
+            timed.site.inner_cast_ray((ox, oy), (dx, dy), t).0.to_bits()
+        };
+        table.add(
+            &format!("`cast_ray` of {length} without the table test, {polygons} polygons"),
+            LIMIT,
+            &rays,
+            inner,
+            rust,
+        );
+        let ours =
+            |[ox, oy, dx, dy, t]: [f64; 5]| timed.site.cast_ray((ox, oy), (dx, dy), t).1.to_bits();
+        table.add(
+            &format!("`cast_ray` of {length}, {polygons} polygons"),
+            Limit::None,
+            &rays[..FEW],
+            ours,
+            rust,
+        );
+    }
+}
+
+fn near(table: &mut Bench, r: &mut SplitMix64, timed: &Timed, polygons: usize) {
+    let boxes: Vec<[f64; 4]> = some(FEW, || {
+        let (x, y) = (r.between(0.0, SIDE - 100.0), r.between(0.0, SIDE - 100.0));
+        [x, y, x + 100.0, y + 100.0]
+    });
+    let lent = RefCell::new((vec![0; polygons], 0, vec![0; 256]));
+    let ours = |b: [f64; 4]| {
+        let (marks, epoch, ids) = &mut *lent.borrow_mut();
+        timed.site.polygons_near(&b, marks, epoch, ids).1[0]
+    };
+    let own = RefCell::new((plain::Stamps::new(polygons), Vec::with_capacity(256)));
+    let rust = |[x0, y0, x1, y1]: [f64; 4]| {
+        let (stamps, ids) = &mut *own.borrow_mut();
+        ids.clear();
+        let b = plain::Aabb::new(plain::Vec2::new(x0, y0), plain::Vec2::new(x1, y1));
+        timed
+            .rust
+            .for_each_polygon_near(&b, stamps, |id| ids.push(id));
+        ids.len() as u64
+    };
+    table.add(
+        &format!("`polygons_near`, 100 x 100, {polygons} polygons"),
+        Limit::None,
+        &boxes,
+        ours,
+        rust,
+    );
+}

@@ -1,0 +1,365 @@
+//! Damaged tables: sites of ours with some numbers changed at random. Every question is answered or
+//! refused, and refused 6 exactly where the check here, written from document 01's words alone, finds
+//! the tables unsound.
+
+use super::given::{self, Given};
+use super::is_coordinate;
+use crate::lent::{Lent, PATTERN};
+use crate::sites;
+use crate::util::bits::step;
+use crate::util::rng::SplitMix64;
+use crate::util::table::{Table, count, verdict};
+
+const QUESTIONS: u64 = 1_200_000;
+/// Questions of one damaged site.
+const EACH: u64 = 6;
+
+/// Document 01, "Sound tables", line by line.
+fn is_sound(s: &Lent) -> bool {
+    let [width, height, ox, oy, cell, inverse] = s.head.floats;
+    let [cols, rows, polygons, points, items] = s.head.counts.map(|n| n as usize);
+    if polygons > 4_096 || points > 65_536 {
+        return false;
+    }
+    if cols < 1 || rows < 1 || cols * rows > 1_048_576 {
+        return false;
+    }
+    let long = s.points.len() >= 2 * points
+        && s.boxes.len() >= 4 * polygons
+        && s.polygons.len() >= 2 * polygons
+        && s.owners.len() >= points
+        && s.starts.len() > cols * rows
+        && s.items.len() >= items;
+    if !long {
+        return false;
+    }
+    let is_size = |x: f64| (0.0..=1e6).contains(&x);
+    if !is_size(width) || !is_size(height) || !is_coordinate(ox) || !is_coordinate(oy) {
+        return false;
+    }
+    if !s.points[..2 * points].iter().all(|&x| is_coordinate(x)) {
+        return false;
+    }
+    if !(cell.is_finite() && cell >= 1.0 && inverse == 1.0 / cell) {
+        return false;
+    }
+    let starts = &s.starts[..=cols * rows];
+    if starts[0] != 0
+        || starts.windows(2).any(|w| w[0] > w[1])
+        || starts[cols * rows] as usize != items
+    {
+        return false;
+    }
+    let place = |k: usize| (s.polygons[2 * k] as usize, s.polygons[2 * k + 1] as usize);
+    let named = |&id: &u32| (id as usize) < polygons && place(id as usize).1 >= 3;
+    if !s.items[..items].iter().all(named) {
+        return false;
+    }
+    let mut holders = vec![None; points];
+    for k in 0..polygons {
+        let (first, len) = place(k);
+        if first + len > points {
+            return false;
+        }
+        for holder in &mut holders[first..first + len] {
+            if holder.is_some() {
+                return false;
+            }
+            *holder = Some(k as u32);
+        }
+        let corners = s.points[2 * first..2 * (first + len)].chunks_exact(2);
+        let mut b = [
+            f64::INFINITY,
+            f64::INFINITY,
+            f64::NEG_INFINITY,
+            f64::NEG_INFINITY,
+        ];
+        if len >= 3 {
+            for p in corners {
+                b = [
+                    b[0].min(p[0]),
+                    b[1].min(p[1]),
+                    b[2].max(p[0]),
+                    b[3].max(p[1]),
+                ];
+            }
+        }
+        if s.boxes[4 * k..4 * k + 4] != b {
+            return false;
+        }
+    }
+    holders
+        .iter()
+        .zip(&s.owners)
+        .all(|(holder, owner)| *holder == Some(*owner))
+}
+
+fn number(r: &mut SplitMix64, old: u32) -> u32 {
+    let any = r.bits() as u32;
+    let small = r.below(12) as u32;
+    r.pick(&[
+        old.wrapping_add(1),
+        old.wrapping_sub(1),
+        small,
+        any,
+        0,
+        u32::MAX,
+        old,
+    ])
+}
+
+fn float(r: &mut SplitMix64, old: f64) -> f64 {
+    let any = f64::from_bits(r.bits());
+    let near = step(old, r.whole(-2, 2));
+    r.pick(&[
+        near,
+        near,
+        any,
+        f64::NAN,
+        f64::INFINITY,
+        -old,
+        0.0,
+        1e6,
+        step(1e6, 1),
+        1.0,
+        old + 1.0,
+        0.5,
+    ])
+}
+
+fn some_of<T>(r: &mut SplitMix64, list: &mut [T], change: impl FnOnce(&mut SplitMix64, &mut T)) {
+    if !list.is_empty() {
+        let i = r.below(list.len() as u64) as usize;
+        change(r, &mut list[i]);
+    }
+}
+
+fn cut<T: Clone>(r: &mut SplitMix64, list: &mut Vec<T>, more: T) {
+    if r.below(2) == 0 {
+        list.pop();
+    } else {
+        list.push(more);
+    }
+}
+
+/// One number more, or one table a place shorter or longer.
+fn damage(r: &mut SplitMix64, s: &mut Lent) {
+    let words = |r: &mut SplitMix64, x: &mut u32| *x = number(r, *x);
+    let floats = |r: &mut SplitMix64, x: &mut f64| *x = float(r, *x);
+    match r.below(22) {
+        0 | 1 => some_of(r, &mut s.head.floats, floats),
+        2 | 3 => some_of(r, &mut s.head.counts, words),
+        4..=6 => some_of(r, &mut s.points, floats),
+        7 | 8 => some_of(r, &mut s.boxes, floats),
+        9..=11 => some_of(r, &mut s.polygons, words),
+        12 | 13 => some_of(r, &mut s.owners, words),
+        14 | 15 => some_of(r, &mut s.starts, words),
+        16 | 17 => some_of(r, &mut s.items, words),
+        18 => {
+            let n = s.items.len() as u64;
+            if n > 1 {
+                s.items.swap(r.below(n) as usize, r.below(n) as usize);
+            }
+        }
+        19 => {
+            let n = s.polygons.len() as u64 / 2;
+            if n > 1 {
+                let (a, b) = (2 * r.below(n) as usize, 2 * r.below(n) as usize);
+                s.polygons.swap(a, b);
+                s.polygons.swap(a + 1, b + 1);
+            }
+        }
+        20 => match r.below(3) {
+            0 => cut(r, &mut s.points, 0.5),
+            1 => cut(r, &mut s.boxes, 0.5),
+            _ => cut(r, &mut s.polygons, 1),
+        },
+        _ => match r.below(3) {
+            0 => cut(r, &mut s.owners, 1),
+            1 => cut(r, &mut s.starts, 1),
+            _ => cut(r, &mut s.items, 1),
+        },
+    }
+}
+
+#[derive(Default)]
+struct Counts {
+    sites: u64,
+    sound: u64,
+    asked: u64,
+    six: u64,
+    wrong: u64,
+    first: Option<String>,
+}
+
+impl Counts {
+    /// The status of one question, and whether a refusal left all as it was.
+    fn add(&mut self, sound: bool, status: u32, kept: bool, what: &str, site: &Lent) {
+        self.asked += 1;
+        self.six += u64::from(status == 6);
+        let right = (status == 6) != sound && kept && matches!(status, 0 | 1 | 6 | 7 | 8);
+        if right {
+            return;
+        }
+        self.wrong += 1;
+        if self.first.is_none() {
+            self.first = Some(format!(
+                "{what}: status {status}, sound {sound}, kept {kept}; head {:?}, points {:?}, boxes {:?}, polygons {:?}, owners {:?}, starts {:?}, items {:?}",
+                site.head,
+                site.points,
+                site.boxes,
+                site.polygons,
+                site.owners,
+                site.starts,
+                site.items
+            ));
+        }
+    }
+}
+
+fn ask(r: &mut SplitMix64, c: &mut Counts, s: &Lent, sound: bool) {
+    let p = (r.between(-20.0, 120.0), r.between(-20.0, 120.0));
+    let n = r.below(40) as u32;
+    match r.below(11) {
+        0 => {
+            let mut marks = vec![PATTERN; r.below(64) as usize];
+            let mut ids = vec![PATTERN; r.below(40) as usize];
+            let mut epoch = r.bits() as u32;
+            let old = (marks.clone(), ids.clone(), epoch);
+            let b = [p.0, p.1, p.0 + 30.0, p.1 + 30.0];
+            let (status, tally) = s.polygons_near(&b, &mut marks, &mut epoch, &mut ids);
+            let untouched = (marks, ids.clone(), epoch) == old;
+            let kept = match status {
+                6 | 7 => untouched && tally == [0, 0],
+                8 => ids.iter().all(|&x| x == 0) && tally == [0, 0],
+                _ => true,
+            };
+            c.add(sound, status, kept, "polygons_near", s);
+        }
+        1 => {
+            let (status, number) = s.items_at_number(p);
+            c.add(
+                sound,
+                status,
+                status == 0 || number == 0,
+                "items_at_number",
+                s,
+            );
+        }
+        2 => {
+            let (status, found) = s.polygon_at(p);
+            c.add(
+                sound,
+                status,
+                status == 0 || found == [0, 0],
+                "polygon_at",
+                s,
+            );
+        }
+        3 | 4 => {
+            let d = (r.between(-1.0, 1.0), r.between(-1.0, 1.0));
+            let (status, t, found) = s.cast_ray(p, d, r.pick(&[100.0, f64::INFINITY, 1e6]));
+            c.add(
+                sound,
+                status,
+                status == 0 || (t == 0.0 && found == [0; 3]),
+                "cast_ray",
+                s,
+            );
+        }
+        5 => {
+            let (status, ends) = s.edge(n);
+            c.add(sound, status, status == 0 || ends == [0.0; 4], "edge", s);
+        }
+        6 => {
+            let (status, end) = s.edge_end(n);
+            c.add(sound, status, status == 0 || end == 0, "edge_end", s);
+        }
+        7 => {
+            let (status, owner) = s.edge_owner(n);
+            c.add(sound, status, status == 0 || owner == 0, "edge_owner", s);
+        }
+        8 => {
+            let (status, place, b) = s.polygon(n / 2);
+            c.add(
+                sound,
+                status,
+                status == 0 || (place == [0, 0] && b == [0.0; 4]),
+                "polygon",
+                s,
+            );
+        }
+        9 => {
+            let (status, number) = s.polygon_vertices_number(n / 2);
+            let corner = s.polygon_vertex(n / 2, r.below(5) as usize);
+            let kept = status == 0 || (number == 0 && corner.is_nan());
+            c.add(sound, status, kept, "polygon_vertices", s);
+        }
+        _ => {
+            let (status, b) = s.bounds();
+            c.add(sound, status, status == 0 || b == [0.0; 4], "bounds", s);
+            let (status, width) = s.width();
+            c.add(sound, status, status == 0 || width == 0.0, "width", s);
+            let (status, height) = s.height();
+            c.add(sound, status, status == 0 || height == 0.0, "height", s);
+            let (status, dims) = s.dims();
+            c.add(sound, status, status == 0 || dims == [0; 2], "dims", s);
+        }
+    }
+}
+
+pub fn compare() -> bool {
+    let r = &mut SplitMix64::new(6_100);
+    let groups = sites::groups();
+    let mut c = Counts::default();
+    let mut turn = 0;
+    while c.asked < QUESTIONS {
+        let plan = (groups[turn % 9].make)(r);
+        turn += 1;
+        if plan.rings.len() > 40 {
+            continue;
+        }
+        let scene = plan.scene();
+        let whole = given::of_scene(&scene);
+        if whole.starts.len() > 3_000 || whole.items.len() > 3_000 {
+            continue;
+        }
+        let given = Given::new(&plan);
+        let mut site = Lent::blank(given::rooms(&whole));
+        if site.build(given.size, &given.points, &given.lens) != 0 {
+            c.wrong += 1;
+            continue;
+        }
+        for _ in 0..20 {
+            let mut damaged = site.clone();
+            for _ in 0..r.pick(&[0, 1, 1, 1, 1, 2, 3]) {
+                damage(r, &mut damaged);
+            }
+            let sound = is_sound(&damaged);
+            c.sites += 1;
+            c.sound += u64::from(sound);
+            if damaged.is_sound() != sound {
+                c.add(sound, 99, false, "is_sound", &damaged);
+            }
+            for _ in 0..EACH {
+                ask(r, &mut c, &damaged, sound);
+            }
+        }
+    }
+    let mut table = Table::new(&["damaged tables", "count"]);
+    for (what, n) in [
+        ("tables", c.sites),
+        ("of them still sound by the check here", c.sound),
+        ("questions", c.asked),
+        ("refused 6", c.six),
+        ("answered or refused wrongly", c.wrong),
+    ] {
+        table.row(vec![what.to_string(), count(n)]);
+    }
+    table.row(vec!["verdict".to_string(), verdict(c.wrong == 0)]);
+    table.print();
+    if let Some(first) = c.first {
+        println!("- {first}\n");
+    }
+    c.wrong == 0
+}
