@@ -98,6 +98,27 @@ with_site! {
 
 #[link(name = "exports_scene", kind = "static")]
 unsafe extern "C" {
+    #[rustfmt::skip]
+    fn bf_scene_random(
+        width: f64,
+        height: f64,
+        number: u32,
+        seed: u64,
+        points: *mut f64,
+        points_len: usize,
+        boxes: *mut f64,
+        boxes_len: usize,
+        polygons: *mut u32,
+        polygons_len: usize,
+        owners: *mut u32,
+        owners_len: usize,
+        starts: *mut u32,
+        starts_len: usize,
+        items: *mut u32,
+        items_len: usize,
+        head: &mut [f64; 6],
+        counts: &mut [u32; 5],
+    ) -> u32;
     fn bf_scene_new(
         width: f64,
         height: f64,
@@ -175,6 +196,33 @@ impl Lent {
                 given.len(),
                 lens.as_ptr(),
                 lens.len(),
+                self.points.as_mut_ptr(),
+                self.points.len(),
+                self.boxes.as_mut_ptr(),
+                self.boxes.len(),
+                self.polygons.as_mut_ptr(),
+                self.polygons.len(),
+                self.owners.as_mut_ptr(),
+                self.owners.len(),
+                self.starts.as_mut_ptr(),
+                self.starts.len(),
+                self.items.as_mut_ptr(),
+                self.items.len(),
+                &mut self.head.floats,
+                &mut self.head.counts,
+            )
+        }
+    }
+
+    /// A random site.
+    pub fn random(&mut self, (width, height): (f64, f64), number: u32, seed: u64) -> u32 {
+        // SAFETY: as above.
+        unsafe {
+            bf_scene_random(
+                width,
+                height,
+                number,
+                seed,
                 self.points.as_mut_ptr(),
                 self.points.len(),
                 self.boxes.as_mut_ptr(),

@@ -18,7 +18,7 @@ use crate::util::rng::SplitMix64;
 use crate::util::table::{Table, count};
 use crate::util::tally::{self, Tally, Value};
 use given::Given;
-use oracle::{Aabb, Scene, Stamps, Vec2, seam};
+use oracle::{Aabb, Scene, SceneConfig, Stamps, Vec2, seam};
 
 pub fn compare() -> bool {
     let groups = sites::groups();
@@ -32,6 +32,7 @@ pub fn compare() -> bool {
         }
     }
     held.faults();
+    held.random();
     let built = held.print();
     damage::compare() && built
 }
@@ -129,6 +130,8 @@ struct Held {
     long: Tally,
     short: Tally,
     refused: Tally,
+    random: Tally,
+    random_refused: Tally,
     near: Tally,
     near_short: Tally,
     near_refused: Tally,
@@ -165,6 +168,8 @@ impl Held {
             long: Tally::new(["new, longer room", "zeros after each table"]),
             short: Tally::new(["new, a room one short", "5, nothing written"]),
             refused: Tally::new(["new, faulty input", "the first of 2, 3, 1, 4, 5"]),
+            random: Tally::new(["random", "Scene::random: head and six tables"]),
+            random_refused: Tally::new(["random, faulty", "the first of 2, 1, 4, 5"]),
             near: Tally::new([
                 "polygons_near",
                 "for_each_polygon_near, stamps, entries read",
@@ -708,6 +713,85 @@ impl Held {
         }
     }
 
+    /// Random sites, from one and no polygon to 4,096, in wide and narrow worlds; a room one short in each
+    /// table; sizes and numbers outside the limits, alone and with others.
+    fn random(&mut self) {
+        let r = &mut SplitMix64::new(5_950);
+        for i in 0..6_000 {
+            let some = sites::some(r) as u32;
+            let number = if i % 200 == 0 { 4_096 } else { some };
+            let any = r.between(0.0, 3_000.0);
+            let sides = [
+                2_000.0, any, 0.0, -0.0, 0.5, 1.0, 1.999, 9e5, 899_999.5, 300.0,
+            ];
+            let size = (r.pick(&sides), r.pick(&[any, 2_000.0, 0.0, 0.9, 9e5]));
+            let any_seed = r.bits();
+            let seed = r.pick(&[any_seed, any_seed, 0, u64::MAX, 0x5EED]);
+            let scene = Scene::random(&SceneConfig {
+                width: loaded(size.0),
+                height: loaded(size.1),
+                polygon_count: number as usize,
+                seed,
+            });
+            let plan = Plan {
+                size,
+                rings: Vec::new(),
+            };
+            let at = format!("{number} polygons, seed {seed}");
+            let rust = given::of_scene(&scene);
+            let exact = given::rooms(&rust);
+            let (cols, rows) = scene.grid().dims();
+            if cols * rows > 1_048_576 {
+                let mut ours = Lent::blank(given::some_rooms(r));
+                let blank = given::refused(given::rooms(&ours));
+                let status = ours.random(size, number, seed);
+                self.random_refused.add(
+                    At(&plan, &at),
+                    told_of!(status, &ours),
+                    told_of!(4u32, &blank),
+                );
+                continue;
+            }
+            let longer = given::longer(r, exact);
+            let mut ours = Lent::blank(longer);
+            let status = ours.random(size, number, seed);
+            let theirs = given::stretched(&rust, longer);
+            self.random.add(
+                At(&plan, &at),
+                told_of!(status, &ours),
+                told_of!(0u32, &theirs),
+            );
+            let table = r.below(6) as usize;
+            if let Some(less) = given::one_short(exact, table) {
+                let mut short = Lent::blank(less);
+                let status = short.random(size, number, seed);
+                let blank = given::refused(less);
+                self.random_refused.add(
+                    At(&plan, &at),
+                    told_of!(status, &short),
+                    told_of!(5u32, &blank),
+                );
+            }
+            let far = r.pick(&[bits::step(9e5, 1), f64::NAN, -1.0, f64::INFINITY, 1e6]);
+            let many = r.pick(&[4_097, u32::MAX]);
+            for (size, number, no) in [
+                ((far, size.1), number, 1u32),
+                ((size.0, far), number, 1),
+                (size, many, 2),
+                ((far, far), many, 2),
+            ] {
+                let mut ours = Lent::blank(exact);
+                let status = ours.random(size, number, seed);
+                let blank = given::refused(exact);
+                self.random_refused.add(
+                    At(&plan, &at),
+                    told_of!(status, &ours),
+                    told_of!(no, &blank),
+                );
+            }
+        }
+    }
+
     fn print(self) -> bool {
         self.seen.print();
         tally::print(&[
@@ -715,6 +799,8 @@ impl Held {
             self.long,
             self.short,
             self.refused,
+            self.random,
+            self.random_refused,
             self.near,
             self.near_short,
             self.near_refused,

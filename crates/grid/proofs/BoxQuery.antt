@@ -123,7 +123,7 @@ entries-count g r starts items =
     (λ j h. length-joined (λ i. cellOf starts items ((r .r0 + j) * g .cols + r .c0 + i)) (suc (r .c1) - r .c0))
 
 -- a cell's entries are items, so they are ids
-cell-named : {cols rows : ℕ} {starts items : List ℕ} (n c : ℕ) → Sound cols rows starts items → Named (cols * rows) starts items n → c < cols * rows → AllBelow n (cellOf starts items c)
+pub cell-named : {cols rows : ℕ} {starts items : List ℕ} (n c : ℕ) → Sound cols rows starts items → Named (cols * rows) starts items n → c < cols * rows → AllBelow n (cellOf starts items c)
 cell-named {cols} {rows} {starts} {items} n c s ids h =
     let o = row-of s c 1 (omega arith) in
     let z : getD starts (suc c) 0 ≤ getD starts (cols * rows) 0 = start-last s (suc c) h in

@@ -1,13 +1,11 @@
 -- Laws of stretches and of the lists of the buckets. Assumes nothing.
 use mathlib.Core.Path.{_≡_, refl, sym, ap, _∙_, subst}
 use mathlib.Core.Logic.{⊎-elim}
-use mathlib.Core.Bool.{Bool, true, false, _&&_}
+use mathlib.Core.Bool.{Bool, true, false}
 use mathlib.Core.List.{List, [], _∷_, map}
 use Prim.Native.Nat.{ℕ, zero, suc, _+_, _-_, _≤_, _<_}
 use native.Mathlib.Omega.{arith}
-use native.Mathlib.Numerals.{add-one}
 use lib.ListN.{length, getD, drop}
-use lib.Dec.{leb, ltb}
 use lib.Ieee.{Float, le}
 use borrow.Author.Tests.{lt-leb}
 use Rattle.lists.specs.Lists.{bit, consIf, sumTo, sumOver}

@@ -3,7 +3,7 @@ use mathlib.Core.Path.{_≡_, refl, sym, ap, _∙_, subst}
 use mathlib.Core.Logic.{inl}
 use mathlib.Core.Bool.{Bool, true, false}
 use mathlib.Core.List.{List, [], _∷_, map}
-use Prim.Native.Nat.{ℕ, suc, _+_, _-_, _≤_, _<_}
+use Prim.Native.Nat.{ℕ, _+_, _≤_, _<_}
 use native.Mathlib.Nat.{le-refl}
 use native.Mathlib.Omega.{arith}
 use lib.ListN.{length, getD, take, drop, length-map}
@@ -31,7 +31,7 @@ use Rattle.index.specs.declared.Indexed.{Indexed}
 use Rattle.index.specs.declared.Spans.{Spans}
 use Rattle.index.specs.Spans.{bucketsFor, headOf, spansOf, covers, edgeRefs}
 use Rattle.index.specs.Angular.{inBucket, nearer, nearestFirst, Index, bucketEdges, indexOf, refsOf}
-use Rattle.index.specs.Stands.{refsAt, indexIn, Within, Ready, overOf, Builds}
+use Rattle.index.specs.Stands.{refsAt, indexIn, Ready, overOf, Builds}
 use Rattle.index.specs.Filling.{spansAt, orderIn, refsBy, manyBy, Fillable, Filled}
 use Rattle.index.proofs.Buckets.{at-inside, many-refs, map-bucket}
 

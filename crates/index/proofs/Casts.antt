@@ -1,5 +1,5 @@
 -- The cast as a whole: no bucket, and the walk of one. Assumes nothing.
-use mathlib.Core.Path.{_≡_, refl, sym, ap, _∙_}
+use mathlib.Core.Path.{_≡_, sym, ap, _∙_}
 use mathlib.Core.Bool.{true, false}
 use mathlib.Core.List.{List, [], map}
 use Prim.Native.Nat.{ℕ, suc, _+_, _<_}
@@ -13,7 +13,6 @@ use Rattle.num.specs.Num.{maxOf}
 use Rattle.geom.specs.declared.Vec2.{Vec2}
 use Rattle.site.specs.declared.Cast.the-variants.{Hit, Miss}
 use Rattle.room.specs.declared.Rooms.{Rooms}
-use Rattle.room.specs.declared.LocalEdge.{LocalEdge}
 use Rattle.room.specs.Layout.{startsW, refsW}
 use Rattle.room.specs.Records.{edgeAt}
 use Rattle.index.specs.declared.AngularIndex.{AngularIndex}

@@ -18,7 +18,7 @@ use Rattle.lists.proofs.Only.{only-trans, only-wider, only-put, only-getD, getD
 use Rattle.room.specs.declared.Rooms.{Rooms}
 use Rattle.room.specs.Layout.{nearestW, startsW, refsW, samplesW}
 use Rattle.index.specs.declared.AngularIndex.{AngularIndex}
-use Rattle.index.specs.Stands.{refsAt, Ready}
+use Rattle.index.specs.Stands.{Ready}
 use Rattle.index.specs.Filling.{spansAt, orderIn, refsBy, manyBy, Counting, Counted, Putting, Placed, Fillable, Filled}
 use Rattle.index.proofs.Buckets.{at-inside, none-past}
 
@@ -177,9 +177,9 @@ module _ (k : Rooms) (floats : List Float) (x : AngularIndex) (total : Float) (n
               = subst (λ (q : List ℕ). drop (refsW k) w₅ ≡ joined (refsBy k floats x total q) (x .buckets) ++ drop (refsW k + manyBy k floats x total q) w₄) o (pl .refs) in
               let at : (b : ℕ) → b ≤ x .buckets → getD w₅ (startsW k + b) 0 ≡ sumTo many b
               = λ b g.
-                  let p : getD (drop (startsW k) w₅) b 0 + many b ≡ getD (drop (startsW k) w₄) b 0
-                  = subst (λ (q : List ℕ). getD (drop (startsW k) w₅) b 0 + length (refsBy k floats x total q b) ≡ getD (drop (startsW k) w₄) b 0) o (pl .starts b (omega (arith, pre .starts-fit))) in
-                  omega (arith, p, summed-at b g, getD-drop (startsW k) w₅ b 0) in
+              let p : getD (drop (startsW k) w₅) b 0 + many b ≡ getD (drop (startsW k) w₄) b 0
+              = subst (λ (q : List ℕ). getD (drop (startsW k) w₅) b 0 + length (refsBy k floats x total q b) ≡ getD (drop (startsW k) w₄) b 0) o (pl .starts b (omega (arith, pre .starts-fit))) in
+              omega (arith, p, summed-at b g, getD-drop (startsW k) w₅ b 0) in
               record {
                 only = only-trans only₄ (record { long = l₅; front = pl .front; rest = tail w₅ held });
                 starts = λ b g. omega (arith, at b g, sumTo-mono many b (x .buckets) g, pre .refs-are, pre .refs-fit);

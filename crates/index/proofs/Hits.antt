@@ -1,13 +1,12 @@
 -- EVERY HIT IS A FRONT EDGE: `cast-front`: a cast over the index of a list of edges answers the number of one of them. Assumes nothing.
-use mathlib.Core.Path.{_≡_, refl, sym, ap, _∙_, subst}
-use mathlib.Core.Logic.{_⊎_, inl, inr, ⊎-elim}
-use mathlib.Core.Bool.{Bool, true, false}
+use mathlib.Core.Path.{_≡_, sym, ap, subst}
+use mathlib.Core.Logic.{inl, inr, ⊎-elim}
+use mathlib.Core.Bool.{true}
 use mathlib.Core.List.{List, [], _∷_, map}
-use Prim.Native.Nat.{ℕ, suc, _<_}
+use Prim.Native.Nat.{ℕ, _<_}
 use native.Mathlib.Omega.{arith}
 use lib.ListN.{length, getD}
 use lib.Ieee.{Float, lt, le}
-use Rattle.lists.specs.Lists.{listed}
 use Rattle.lists.specs.Members.{In, All}
 use Rattle.lists.proofs.Cases.{by-test}
 use Rattle.lists.proofs.Members.{in-all}

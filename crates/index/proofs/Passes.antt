@@ -6,13 +6,12 @@ use Prim.Native.Nat.{ℕ, zero, suc, _+_, _-_, _≤_, _<_}
 use native.Mathlib.Nat.{le-refl, sub-self}
 use native.Mathlib.Omega.{arith}
 use lib.ListN.{length, getD, take, drop, replicate, length-take, length-drop, length-replicate, drop-of-length-le, replicate-append-replicate, take-append-drop}
-use lib.Seq.{drop-drop, getD-take, getD-drop, ext-getD}
+use lib.Seq.{drop-drop, getD-take, ext-getD}
 use lib.Ieee.{Float}
 use borrow.Rule.Slice.PartMut.{midOf, putMid, mid-len, same-len-mid, take-put}
 use Rattle.lists.specs.Lists.{consIf, sumTo, joined}
-use Rattle.lists.specs.Parts.{part}
 use Rattle.lists.proofs.Cases.{lt-or-le}
-use Rattle.lists.proofs.Sums.{sumTo-step, sumTo-mono}
+use Rattle.lists.proofs.Sums.{sumTo-step}
 use Rattle.lists.proofs.Joined.{joined-ext}
 use Rattle.lists.proofs.Zeros.{getD-zeros}
 use Rattle.lists.proofs.Parts.{part-rest, back-rest, front-getD, getD-part}
@@ -23,7 +22,6 @@ use Rattle.room.specs.Layout.{nearestW, startsW, refsW, wordsFor}
 use Rattle.index.specs.declared.AngularIndex.{AngularIndex}
 use Rattle.index.specs.declared.Spans.{Spans}
 use Rattle.index.specs.Spans.{covers, edgeBits}
-use Rattle.index.specs.Angular.{inBucket}
 use Rattle.index.specs.Filling.{spansAt, orderIn, refsBy, manyBy, CountRoom, Counting, Counted, PutRoom, PutBoth, Putting, Placed}
 use Rattle.index.proofs.Buckets.{Inside, at-inside, bits-past, bits-inside, length-more, rest-few, drop-down}
 

@@ -1,11 +1,11 @@
 -- The walk down the references of a bucket, turn by turn. Assumes nothing.
-use mathlib.Core.Path.{_≡_, refl, sym, ap, _∙_}
+use mathlib.Core.Path.{_≡_, sym, _∙_}
 use mathlib.Core.Logic.{⊎-elim}
 use mathlib.Core.Bool.{true, false}
 use mathlib.Core.List.{List, [], _∷_, map}
 use Prim.Native.Nat.{ℕ, suc, _+_, _-_, _≤_, _<_, min}
 use native.Mathlib.Omega.{arith}
-use lib.ListN.{length, getD, take, drop, drop-of-length-le}
+use lib.ListN.{length, getD, drop-of-length-le}
 use lib.Seq.{take-nil}
 use lib.Ieee.{Float, nan, le}
 use Rattle.lists.specs.Parts.{part}
@@ -18,7 +18,7 @@ use Rattle.room.specs.declared.LocalEdge.{LocalEdge}
 use Rattle.room.specs.Records.{edgeAt}
 use Rattle.index.specs.declared.Best.{Best}
 use Rattle.index.specs.declared.Ends.{Ends}
-use Rattle.index.specs.Casting.{noneYet, betterOf, meetOf, walkOf}
+use Rattle.index.specs.Casting.{betterOf, meetOf, walkOf}
 
 module _ {A : Type 0} where
   -- the next of a part that may go past the end

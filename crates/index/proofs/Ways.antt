@@ -1,5 +1,5 @@
 -- Each way through `clip`, `span_buckets`, `ends_at` and `meet`, over plain values: the tests and the callees' answers as equations. Assumes nothing.
-use mathlib.Core.Path.{_≡_, refl, sym, ap, _∙_}
+use mathlib.Core.Path.{_≡_, sym, _∙_}
 use mathlib.Core.Bool.{true, false}
 use mathlib.Core.List.{List, []}
 use Prim.Native.Nat.{ℕ, _+_, _*_}
@@ -9,8 +9,6 @@ use Rattle.num.specs.Ops.{_⊕_, _⊖_, zeroF}
 use Rattle.num.specs.Num.{minOf, maxOf}
 use Rattle.geom.specs.Constants.{tau, nano}
 use Rattle.geom.specs.Vec.{vec}
-use Rattle.geom.specs.Segment.{raySegmentWithin}
-use Rattle.geom.specs.declared.Vec2.{Vec2}
 use Rattle.geom.specs.declared.Reach.{Reach}
 use Rattle.geom.specs.declared.Reach.the-variants.{Hit, Miss}
 use Rattle.room.specs.declared.Rooms.{Rooms}

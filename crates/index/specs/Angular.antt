@@ -2,7 +2,7 @@
 -- first. Document 01, "Outlines from a post" ("Buckets"; "the first met in order of nearness stays"). Definitions only.
 use mathlib.Core.Bool.{Bool}
 use mathlib.Core.List.{List, [], _∷_}
-use Prim.Native.Nat.{ℕ, _+_}
+use Prim.Native.Nat.{ℕ}
 use lib.ListN.{length}
 use lib.Ieee.{Float}
 use Rattle.lists.specs.Lists.{consIf, listed, sumTo}

@@ -9,7 +9,7 @@ use Rattle.lists.specs.Lists.{consIf, sumTo, joined}
 use Rattle.lists.specs.Parts.{part, Only}
 use Rattle.tables.specs.Scatter.{State}
 use Rattle.room.specs.declared.Rooms.{Rooms}
-use Rattle.room.specs.Layout.{nearestW, startsW, refsW, samplesW, Fit}
+use Rattle.room.specs.Layout.{nearestW, startsW, refsW, samplesW}
 use Rattle.room.specs.Records.{edgeAt}
 use Rattle.index.specs.declared.AngularIndex.{AngularIndex}
 use Rattle.index.specs.declared.Spans.{Spans}

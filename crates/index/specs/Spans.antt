@@ -51,7 +51,6 @@ spansBy x total start len =
     cond (le end tau) (both (clipOf x total start end) (stretch 0 0)) (both (clipOf x total start tau) (clipOf x total zeroF (end ⊖ tau)))
 
 abbrev pub spansOf : AngularIndex → Float → LocalEdge → Spans
-unfolding spansBy
 spansOf x total e = spansBy x total (e .«span_start») (e .«span_len»)
 
 -- the bucket b is one of the stretch. A stretch that ends where it begins, or before, has none

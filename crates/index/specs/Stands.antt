@@ -11,7 +11,6 @@ use Rattle.lists.specs.Lists.{listed}
 use Rattle.lists.specs.Members.{AllBelow}
 use Rattle.lists.specs.Parts.{part, Only}
 use Rattle.room.specs.declared.Rooms.{Rooms}
-use Rattle.room.specs.declared.LocalEdge.{LocalEdge}
 use Rattle.room.specs.Layout.{nearestW, eventsW, startsW, refsW, samplesW, Fit}
 use Rattle.room.specs.Records.{edgeAt, edgesIn}
 use Rattle.index.specs.declared.AngularIndex.{AngularIndex}

@@ -197,7 +197,17 @@ fn meet(k: Rooms, slack: f64, o: Vec2, dir: Vec2, e: Ends, words: &[u32], i: u32
 }
 
 // The edges that the words from one place up to another name, in turn, until one is not nearer than the best.
-fn walk(k: Rooms, slack: f64, floats: &[f64], words: &[u32], from: usize, to: usize, o: Vec2, dir: Vec2, max: f64) -> Best
+fn walk(
+    k: Rooms,
+    slack: f64,
+    floats: &[f64],
+    words: &[u32],
+    from: usize,
+    to: usize,
+    o: Vec2,
+    dir: Vec2,
+    max: f64,
+) -> Best
     ensures { λ r. ⌜ r ≡ walkOf slack o dir (noneYet max) (map (edgeAt k (now (floats .entry)) (now (words .entry))) (part from to (now (words .entry)))) ⌝ }
 {
     let end = if to < words.len() { to } else { words.len() };
@@ -232,7 +242,17 @@ fn turned(angle: f64) -> f64
 }
 
 // The nearest edge that the ray from o along dir, at the angle from the cone's start, hits within max. `slack` is that of `ray_segment_within`.
-pub fn cast_within(slack: f64, k: Rooms, x: AngularIndex, floats: &[f64], words: &[u32], o: Vec2, angle: f64, dir: Vec2, max: f64) -> Cast
+pub fn cast_within(
+    slack: f64,
+    k: Rooms,
+    x: AngularIndex,
+    floats: &[f64],
+    words: &[u32],
+    o: Vec2,
+    angle: f64,
+    dir: Vec2,
+    max: f64,
+) -> Cast
     ensures { λ r. ⌜ r ≡ castWithin slack (indexIn k (now (floats .entry)) (now (words .entry)) x) o angle dir max ⌝ }
 {
     if x.buckets == 0 {
@@ -250,7 +270,16 @@ pub fn cast_within(slack: f64, k: Rooms, x: AngularIndex, floats: &[f64], words:
 }
 
 // `AngularIndex::cast` of the Rust: the slack is 1e-9.
-pub fn cast(k: Rooms, x: AngularIndex, floats: &[f64], words: &[u32], o: Vec2, angle: f64, dir: Vec2, max: f64) -> Cast
+pub fn cast(
+    k: Rooms,
+    x: AngularIndex,
+    floats: &[f64],
+    words: &[u32],
+    o: Vec2,
+    angle: f64,
+    dir: Vec2,
+    max: f64,
+) -> Cast
     ensures { λ r. ⌜ r ≡ castOf (indexIn k (now (floats .entry)) (now (words .entry)) x) o angle dir max ⌝ }
 {
     cast_within(1e-9, k, x, floats, words, o, angle, dir, max)
@@ -273,7 +302,12 @@ fn edge_spans(k: Rooms, x: AngularIndex, total: f64, floats: &[f64], i: u32) -> 
     ensures { λ r. ⌜ r ≡ spansAt k (now (floats .entry)) x total i ⌝ }
 {
     let at = room::edges_f(k) + 6 * wide(i);
-    span_buckets(x, total, lists::at64(floats, at + 4), lists::at64(floats, at + 5))
+    span_buckets(
+        x,
+        total,
+        lists::at64(floats, at + 4),
+        lists::at64(floats, at + 5),
+    )
 }
 
 // How many references the edges of the order have.
@@ -369,7 +403,15 @@ fn put_all(k: Rooms, x: AngularIndex, total: f64, floats: &[f64], n: usize, word
 }
 
 // Writes the starts and the references, which fit.
-fn fill(k: Rooms, x: AngularIndex, total: f64, floats: &[f64], n: usize, refs: usize, words: &mut [u32])
+fn fill(
+    k: Rooms,
+    x: AngularIndex,
+    total: f64,
+    floats: &[f64],
+    n: usize,
+    refs: usize,
+    words: &mut [u32],
+)
     requires { ⌜ Fillable k (now floats) x total n refs (now words) ⌝ }
     ensures { λ _. ⌜ Filled k (now (floats .entry)) x total n (now (words .entry)) (now (words .exit)) ⌝ }
 {

@@ -6,21 +6,13 @@ use native.Mathlib.Omega.{arith}
 use Rattle.site.specs.declared.Site.{Site}
 use Rattle.site.specs.Tables.{Tables}
 use Rattle.site.specs.Soundness.{soundOf}
-use Rattle.scene.specs.Asked.{asked, admitOf}
+use Rattle.scene.specs.Asked.{asked, firstFailed, admitOf}
 
 module _ (site : Site) (t : Tables) (inside : Bool) where
-  -- ---- the ways through `admit`
-  pub admit-six : soundOf site t ≡ false → 6 ≡ admitOf site t inside
-  unfolding admitOf asked
-  admit-six e = rw e
-
-  pub admit-one : soundOf site t ≡ true → inside ≡ false → 1 ≡ admitOf site t inside
-  unfolding admitOf asked
-  admit-one e f = rw (e, f)
-
-  pub admit-none : soundOf site t ≡ true → inside ≡ true → 0 ≡ admitOf site t inside
-  unfolding admitOf asked
-  admit-none e f = rw (e, f)
+  -- `admit` is the order of its two tests
+  pub admit-is : (s : Bool) (n : ℕ) → s ≡ soundOf site t → n ≡ firstFailed s 6 inside 1 → n ≡ admitOf site t inside
+  unfolding admitOf asked firstFailed
+  admit-is s n e h = rw (← e) h
 
   sound-by : (s b : Bool) → soundOf site t ≡ s → (n : ℕ) → n ≡ 0 → n ≡ cond s (cond b 0 1) 6 → soundOf site t ≡ true
   sound-by true b e n z h = e

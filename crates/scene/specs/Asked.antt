@@ -12,6 +12,10 @@ use Rattle.site.specs.Soundness.{soundOf}
 unfoldable pub asked : {A : Type 0} → (ℕ → A) → Site → Tables → Bool → A → A
 asked refuse site t inside answer = cond (soundOf site t) (cond inside answer (refuse 1)) (refuse 6)
 
+-- the number of the first of two tests that fails, and 0 where both hold
+unfoldable pub firstFailed : Bool → ℕ → Bool → ℕ → ℕ
+firstFailed one a two b = cond one (cond two 0 b) a
+
 -- the number of the refusal, 0 where there is none
 unfoldable pub admitOf : Site → Tables → Bool → ℕ
 admitOf site t inside = asked (λ n. n) site t inside 0

@@ -12,7 +12,7 @@ use site::Site;
 ghost use mathlib.Core.Path.{_≡_};
 ghost use Rattle.site.specs.Tables.{tables};
 ghost use Rattle.grid.specs.Query.{Is};
-ghost use Rattle.scene.specs.Asked.{admitOf, rayInDomain};
+ghost use Rattle.scene.specs.Asked.{firstFailed, admitOf, rayInDomain};
 ghost use Rattle.scene.specs.Answers.{foundFrom, widthOf, heightOf, boundsOf, dimsOf, polygonOf, polygonVerticesOf, polygonVerticesNumberOf, edgeOf, edgeEndOf, edgeOwnerOf, itemsAtOf, itemsAtNumberOf, polygonAtOf, castRayOf};
 ghost use Rattle.scene.specs.Stamping.{polygonsNearOf, newStampsOf, NewIs};
 
@@ -79,6 +79,19 @@ pub enum Look {
 
 // ---- the tests of every question
 
+// The number of the first of two tests that fails, and 0 where both hold.
+fn first_failed(one: bool, a: u32, two: bool, b: u32) -> u32
+    ensures { λ r. ⌜ r ≡ firstFailed one a two b ⌝ }
+{
+    if !one {
+        return a;
+    }
+    if !two {
+        return b;
+    }
+    0
+}
+
 // 6 for unsound tables, then 1 where what is asked is not `inside` the domain, and 0 where neither.
 fn admit(
     site: Site,
@@ -92,13 +105,8 @@ fn admit(
 ) -> u32
     ensures { λ r. ⌜ r ≡ admitOf site (tables (now (points .entry)) (now (boxes .entry)) (now (polygons .entry)) (now (owners .entry)) (now (starts .entry)) (now (items .entry))) inside ⌝ }
 {
-    if !site::is_sound(site, points, boxes, polygons, owners, starts, items) {
-        return 6;
-    }
-    if !inside {
-        return 1;
-    }
-    0
+    let sound = site::is_sound(site, points, boxes, polygons, owners, starts, items);
+    first_failed(sound, 6, inside, 1)
 }
 
 // ---- the head

@@ -3,3 +3,4 @@ pub mod Ways
 pub mod Looking
 pub mod Highest
 pub mod Cells
+pub mod Edges

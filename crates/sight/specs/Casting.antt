@@ -1,4 +1,4 @@
--- A cast ray, as the Rust runs it (`Scene::cast_ray`, scene.rs, lines 299 to 350): the walk of `walk` with a visitor that tests the polygons of each cell and
+-- A cast ray, as the Rust runs it (`Scene::cast_ray`, scene.rs, lines 302 to 349): the walk of `walk` with a visitor that tests the polygons of each cell and
 -- carries the nearest hit and the ring of the eight ids tested last. Document 01, "Site and grid": "the ring of 8 recent ids is kept. It reports cells entered".
 -- The Rust tells a miss by the edge number u32::MAX; here a hit is a `Cast`. Definitions only.
 use Prim.Native.Nat.{ℕ, zero, suc, _+_, _%_, min}

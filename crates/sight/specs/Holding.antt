@@ -1,4 +1,4 @@
--- The polygon at a point (`Scene::polygon_at`, scene.rs). Document 01, "Site and grid": "`polygon_at` is the highest id in the point's cell whose box and
+-- The polygon at a point (`Scene::polygon_at`, scene.rs, lines 292 to 300). Document 01, "Site and grid": "`polygon_at` is the highest id in the point's cell whose box and
 -- even-odd test hold it". That `highest` is what its name says is proofs/Highest.antt. Definitions only.
 use Prim.Native.Nat.{ℕ}
 use mathlib.Core.Bool.{Bool, cond, _&&_}

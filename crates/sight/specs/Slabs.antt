@@ -1,4 +1,4 @@
--- The box test of `cast_ray`: the Rust's `ray_hits_aabb` (scene.rs, lines 353 to 365). One rounding for each operation, in the Rust's order; `minOf` and `maxOf`
+-- The box test of `cast_ray`: the Rust's `ray_hits_aabb` (scene.rs, lines 352 to 363). One rounding for each operation, in the Rust's order; `minOf` and `maxOf`
 -- are Rust's `min` and `max`, which pass over a NaN (document 01, "Errors that look right", 2). Definitions only.
 use mathlib.Core.Bool.{Bool, not, _||_}
 use lib.Ieee.{Float, lt}

@@ -1,4 +1,4 @@
-// What a point and a ray meet on a site: the Rust's `polygon_at`, `cast_ray` and `ray_hits_aabb` (`scene.rs`, lines 287 to 365), over lent tables.
+// What a point and a ray meet on a site: the Rust's `polygon_at`, `cast_ray` and `ray_hits_aabb` (`scene.rs`, lines 292 to 363), over lent tables.
 // Nothing here tests the tables: the entry points are in crate `scene`. Each function is total: a read past a table's end gives the default.
 // Meanings: specs/Slabs.antt (the box test), specs/Holding.antt (`polygon_at`), specs/Casting.antt (`cast_ray`).
 use geom::Aabb;

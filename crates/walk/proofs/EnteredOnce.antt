@@ -43,7 +43,7 @@ module _ (k : Course) where
       let r : p .row ≡ q .row = sym (row-of (k .cols) (p .row) (p .col) (g .col-in)) ∙ ap (λ (n : ℕ). n / k .cols) e ∙ row-of (k .cols) (q .row) (q .col) (h .col-in) in
       rw (c, r)
 
-  inside : (q : Place) → OnGrid k q → cellNumber k q < k .cols * k .rows
+  pub inside : (q : Place) → OnGrid k q → cellNumber k q < k .cols * k .rows
   unfolding cellNumber
   inside q g =
       let l : suc (q .row) * k .cols ≤ k .rows * k .cols = mul-le-mul-right (k .cols) (g .row-in) in

@@ -35,7 +35,7 @@ part-count-refs-end : tie.Need-part-count-refs-end
 part-count-refs-end c = search needs
 
 count-refs-requires : tie.Need-count-refs-requires
-count-refs-requires c κs = 
+count-refs-requires c κs =
     let a = c .before .before .before .before .before .before .before .before .before .before .before in
     let at = c .before .before .before .before .before .before .before .before .nearest-w in
     let en = c .before .before .before .before .before .before .events-w in
@@ -48,7 +48,7 @@ same-length : tie.Need-same-length
 same-length c = search needs
 
 returns : tie.Need-returns
-returns c = 
+returns c =
     let a = c .before .before .before .before .before .before .before .before .before .before .before .before .before .before .before in
     let at = c .before .before .before .before .before .before .before .before .before .before .before .before .nearest-w in
     let en = c .before .before .before .before .before .before .before .before .before .before .events-w in
@@ -63,7 +63,7 @@ same-length-2 : tie.Need-same-length-2
 same-length-2 c = search needs
 
 returns-2 : tie.Need-returns-2
-returns-2 c = 
+returns-2 c =
     let a = c .before .before .before .before .before .before .before .before .before .before .before .before .before .before .before .before .before in
     let at = c .before .before .before .before .before .before .before .before .before .before .before .before .before .before .nearest-w in
     let en = c .before .before .before .before .before .before .before .before .before .before .before .before .events-w in
@@ -72,7 +72,7 @@ returns-2 c =
     over-refs (a .args .k) (a .args .floats .now) (a .args .words .now) (a .args .n) (a .args .total) (a .pre) (ord .last .1 .0) (at .result) (en .result) (at .ensures) (en .ensures) (ord .ensures) (x .result) (x .ensures) (c .before .before .before .before .before .count-refs .result) (c .before .before .before .before .before .count-refs .ensures) (c .before .before .if1 .left) (omega (arith, c .if2 .taken, c .before .wide .ensures))
 
 fill-requires : tie.Need-fill-requires
-fill-requires c κs = 
+fill-requires c κs =
     let a = c .before .before .before .before .before .before .before .before .before .before .before .before .before .before .before .before .before .before in
     let at = c .before .before .before .before .before .before .before .before .before .before .before .before .before .before .before .nearest-w in
     let en = c .before .before .before .before .before .before .before .before .before .before .before .before .before .events-w in
@@ -84,7 +84,7 @@ same-length-3 : tie.Need-same-length-3
 same-length-3 c = search needs
 
 returns-3 : tie.Need-returns-3
-returns-3 c = 
+returns-3 c =
     let a = c .before .before .before .before .before .before .before .before .before .before .before .before .before .before .before .before .before .before .before .before .before in
     let at = c .before .before .before .before .before .before .before .before .before .before .before .before .before .before .before .before .before .before .nearest-w in
     let en = c .before .before .before .before .before .before .before .before .before .before .before .before .before .before .before .before .events-w in

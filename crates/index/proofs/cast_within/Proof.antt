@@ -7,7 +7,7 @@ use Rattle.index.proofs.cast_within.Statement.{statement}
 use Rattle.index.proofs.cast_within.Tie as tie
 
 returns : tie.Need-returns
-returns c = 
+returns c =
     let a = c .before .before .before .before .args in
     cast-none (a .slack) (a .k) (a .x) (a .floats .now) (a .words .now) (a .o) (a .angle) (a .dir) (a .max) (c .if1 .taken)
 
@@ -54,12 +54,12 @@ walk-requires : tie.Need-walk-requires
 walk-requires c κs = search needs
 
 returns-2 : tie.Need-returns-2
-returns-2 c = 
+returns-2 c =
     let a = c .before .before .before .before .before .before .before .before .before .before .before .before .before .before .before .args in
     cast-hit _ (c .if2 .taken) ∙ cast-some (a .slack) (a .k) (a .x) (a .floats .now) (a .words .now) (a .o) (a .angle) (a .dir) (a .max) (omega arith) (c .before .before .before .before .before .before .before .before .before .turned .ensures) (c .before .before .before .before .before .before .before .before .max .ensures) (c .before .before .before .before .before .before .before .bucket .ensures .0) (c .before .before .before .before .before .before .before .before .before .before .starts-w .ensures) (c .before .before .before .before .before .before .refs-w .ensures) (c .before .before .before .before .before .at32 .ensures) (c .before .before .before .before .wide .ensures) (c .before .before .before .at322 .ensures) (c .before .before .wide2 .ensures) (c .before .walk .ensures)
 
 returns-3 : tie.Need-returns-3
-returns-3 c = 
+returns-3 c =
     let a = c .before .before .before .before .before .before .before .before .before .before .before .before .before .before .before .args in
     cast-miss _ (c .if2 .left) ∙ cast-some (a .slack) (a .k) (a .x) (a .floats .now) (a .words .now) (a .o) (a .angle) (a .dir) (a .max) (omega arith) (c .before .before .before .before .before .before .before .before .before .turned .ensures) (c .before .before .before .before .before .before .before .before .max .ensures) (c .before .before .before .before .before .before .before .bucket .ensures .0) (c .before .before .before .before .before .before .before .before .before .before .starts-w .ensures) (c .before .before .before .before .before .before .refs-w .ensures) (c .before .before .before .before .before .at32 .ensures) (c .before .before .before .before .wide .ensures) (c .before .before .before .at322 .ensures) (c .before .before .wide2 .ensures) (c .before .walk .ensures)
 

@@ -18,7 +18,7 @@ starts-w-requires : tie.Need-starts-w-requires Inv-loop μ-loop
 starts-w-requires c κs = search needs
 
 loop-holds : tie.Need-loop-holds Inv-loop μ-loop
-loop-holds c = 
+loop-holds c =
     let a = c .before .before .before .before in
     tallied-none (a .args .k) (a .args .floats .now) (a .args .x) (a .args .total) (a .args .n) (a .args .words .now) (a .pre) (c .starts-w .result) (c .starts-w .ensures)
 
@@ -50,7 +50,7 @@ part-count-edge-end : tie.Need-part-count-edge-end Inv-loop μ-loop
 part-count-edge-end c = search needs
 
 count-edge-requires : tie.Need-count-edge-requires Inv-loop μ-loop
-count-edge-requires c κs = 
+count-edge-requires c κs =
     let a = c .before .before .before .before .before .before .before .before .before in
     let l = c .before .before .before .before .loop in
     count-room (a .args .k) (a .args .floats .now) (a .args .x) (a .args .total) (a .args .n) (a .args .words .now) (a .pre) (c .before .before .before .before .before .starts-w .result) (c .before .before .before .before .before .starts-w .ensures) (l .words) (l .r) (omega arith) (l .inv) (c .before .before .before .before .before .before .nearest-w .result) (c .before .before .before .before .before .before .nearest-w .ensures) _ (c .before .edge-spans .ensures)
@@ -62,7 +62,7 @@ loop-less : tie.Need-loop-less Inv-loop μ-loop
 loop-less c = search needs
 
 loop-again : tie.Need-loop-again Inv-loop μ-loop
-loop-again c = 
+loop-again c =
     let a = c .before .before .before .before .before .before .before .before .before .before .before .before in
     let l = c .before .before .before .before .before .before .before .loop in
     tallied-more (a .args .k) (a .args .floats .now) (a .args .x) (a .args .total) (a .args .n) (a .args .words .now) (a .pre) (c .before .before .before .before .before .before .before .before .starts-w .result) (c .before .before .before .before .before .before .before .before .starts-w .ensures) (l .words) (l .r) (omega arith) (l .inv) (c .before .before .before .before .before .before .before .before .before .nearest-w .result) (c .before .before .before .before .before .before .before .before .before .nearest-w .ensures) _ (c .before .before .before .before .edge-spans .ensures)
@@ -72,7 +72,7 @@ same-length : tie.Need-same-length Inv-loop μ-loop
 same-length c = c .before .loop .inv .long
 
 returns : tie.Need-returns Inv-loop μ-loop
-returns c = 
+returns c =
     let a = c .before .before .before .before .before .before in
     let l = c .before .loop in
     tallied-all (a .args .k) (a .args .floats .now) (a .args .x) (a .args .total) (a .args .n) (a .args .words .now) (a .pre) (c .before .before .starts-w .result) (c .before .before .starts-w .ensures) (l .words) (l .r) (omega arith) (l .inv)

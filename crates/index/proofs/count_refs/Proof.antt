@@ -4,7 +4,7 @@ use Prim.Native.Nat.{ℕ, _+_, _-_, _*_, _<_, _≤_}
 use native.Mathlib.Nat.{le-refl}
 use lib.ListN.{length, getD, drop, drop-of-length-le}
 use Rattle.lists.specs.Lists.{sumOver}
-use Rattle.index.specs.Spans.{edgeRefs, widthOf}
+use Rattle.index.specs.Spans.{edgeRefs}
 use Rattle.index.specs.Filling.{spansAt}
 use Rattle.index.proofs.Buckets.{sum-down, width-few, at-inside}
 use borrow.Author.Needs.{needs}
@@ -68,7 +68,7 @@ loop-less : tie.Need-loop-less Inv-loop μ-loop
 loop-less c = search needs
 
 loop-again : tie.Need-loop-again Inv-loop μ-loop
-loop-again c = 
+loop-again c =
     let a = c .before .before .before .before .before .before .before .before .args in
     let l = c .before .before .before .before .before .loop in
     let s = sum-down (λ i. edgeRefs (spansAt (a .k) (a .floats .now) (a .x) (a .total) i)) (a .order .now) (l .r) (omega arith) (l .inv .0) in
@@ -76,7 +76,7 @@ loop-again c =
     (omega arith, adds (l .inv .1) (few c .0) s, bound (l .inv .2) (few c .1) m)
 
 returns : tie.Need-returns Inv-loop μ-loop
-returns c = 
+returns c =
     let a = c .before .before .before .before .args in
     let l = c .before .loop in
     let e : l .r ≡ 0 = omega arith in

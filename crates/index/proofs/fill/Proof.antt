@@ -55,7 +55,7 @@ clear32-requires-2 : tie.Need-clear32-requires-2
 clear32-requires-2 c κs = search needs
 
 count-all-requires : tie.Need-count-all-requires
-count-all-requires c κs = 
+count-all-requires c κs =
     let a = c .before .before .before .before .before .before .before .before .before .before .before .before .before .before in
     let st = c .before .before .before .before .before .before .before .before .before .before .starts-w in
     let count = c .before .before .before .before .before .before .before .before .before .before .before .wide in
@@ -75,7 +75,7 @@ part-sum-up-end : tie.Need-part-sum-up-end
 part-sum-up-end c = search needs
 
 sum-up-requires : tie.Need-sum-up-requires
-sum-up-requires c κs = 
+sum-up-requires c κs =
     let a = c .before .before .before .before .before .before .before .before .before .before .before .before .before .before .before .before .before .before in
     let st = c .before .before .before .before .before .before .before .before .before .before .before .before .before .before .starts-w in
     let count = c .before .before .before .before .before .before .before .before .before .before .before .before .before .before .before .wide in
@@ -83,7 +83,7 @@ sum-up-requires c κs =
     sum-room (a .args .k) (a .args .floats .now) (a .args .x) (a .args .total) (a .args .n) (a .args .refs) (a .args .words .now) (a .pre) (st .result) (st .result + count .result + 1) (at .result) (at .result + a .args .refs) (st .ensures) (omega (arith, st .ensures, count .ensures)) (at .ensures) (omega (arith, at .ensures)) _ (blank (a .args .k) (a .args .floats .now) (a .args .x) (a .args .total) (a .args .n) (a .args .refs) (a .args .words .now) (a .pre) (st .result) (st .result + count .result + 1) (at .result) (at .result + a .args .refs) (st .ensures) (omega (arith, st .ensures, count .ensures)) (at .ensures) (omega (arith, at .ensures)) _ (c .before .before .before .before .before .before .before .before .before .before .before .clear32 .kept .0) (c .before .before .before .before .before .before .before .before .before .before .before .clear32 .ensures) _ (c .before .before .before .before .before .before .before .clear322 .kept .0) (c .before .before .before .before .before .before .before .clear322 .ensures)) _ (c .before .before .before .count-all .kept .1 .1 .1 .1 .1 .0) (c .before .before .before .count-all .ensures) (count .result) (count .ensures)
 
 put-all-requires : tie.Need-put-all-requires
-put-all-requires c κs = 
+put-all-requires c κs =
     let a = c .before .before .before .before .before .before .before .before .before .before .before .before .before .before .before .before .before .before .before .before .before .before in
     let st = c .before .before .before .before .before .before .before .before .before .before .before .before .before .before .before .before .before .before .starts-w in
     let count = c .before .before .before .before .before .before .before .before .before .before .before .before .before .before .before .before .before .before .before .wide in
@@ -94,7 +94,7 @@ same-length : tie.Need-same-length
 same-length c = search needs
 
 returns : tie.Need-returns
-returns c = 
+returns c =
     let a = c .before .before .before .before .before .before .before .before .before .before .before .before .before .before .before .before .before .before .before .before .before .before .before .before .before in
     let st = c .before .before .before .before .before .before .before .before .before .before .before .before .before .before .before .before .before .before .before .before .before .starts-w in
     let count = c .before .before .before .before .before .before .before .before .before .before .before .before .before .before .before .before .before .before .before .before .before .before .wide in

@@ -21,7 +21,7 @@ wide-requires : tie.Need-wide-requires Inv-loop μ-loop
 wide-requires c κs = search needs
 
 loop-holds : tie.Need-loop-holds Inv-loop μ-loop
-loop-holds c = 
+loop-holds c =
     let a = c .before .before .before .before .before in
     scattered-none (a .args .k) (a .args .floats .now) (a .args .x) (a .args .total) (a .args .n) (a .args .words .now) (a .pre) (c .before .starts-w .result) (c .before .starts-w .ensures) (c .wide .result) (c .wide .ensures)
 
@@ -53,7 +53,7 @@ part-put-edge-end : tie.Need-part-put-edge-end Inv-loop μ-loop
 part-put-edge-end c = search needs
 
 put-edge-requires : tie.Need-put-edge-requires Inv-loop μ-loop
-put-edge-requires c κs = 
+put-edge-requires c κs =
     let a = c .before .before .before .before .before .before .before .before .before .before in
     let l = c .before .before .before .before .loop in
     put-room (a .args .k) (a .args .floats .now) (a .args .x) (a .args .total) (a .args .n) (a .args .words .now) (a .pre) (c .before .before .before .before .before .before .starts-w .result) (c .before .before .before .before .before .before .starts-w .ensures) (c .before .before .before .before .before .wide .result) (c .before .before .before .before .before .wide .ensures) (l .words) (l .r) (omega arith) (l .inv) (c .before .before .before .before .before .before .before .nearest-w .result) (c .before .before .before .before .before .before .before .nearest-w .ensures) _ (c .before .edge-spans .ensures)
@@ -65,7 +65,7 @@ loop-less : tie.Need-loop-less Inv-loop μ-loop
 loop-less c = search needs
 
 loop-again : tie.Need-loop-again Inv-loop μ-loop
-loop-again c = 
+loop-again c =
     let a = c .before .before .before .before .before .before .before .before .before .before .before .before .before in
     let l = c .before .before .before .before .before .before .before .loop in
     scattered-more (a .args .k) (a .args .floats .now) (a .args .x) (a .args .total) (a .args .n) (a .args .words .now) (a .pre) (c .before .before .before .before .before .before .before .before .before .starts-w .result) (c .before .before .before .before .before .before .before .before .before .starts-w .ensures) (c .before .before .before .before .before .before .before .before .wide .result) (c .before .before .before .before .before .before .before .before .wide .ensures) (l .words) (l .r) (omega arith) (l .inv) (c .before .before .before .before .before .before .before .before .before .before .nearest-w .result) (c .before .before .before .before .before .before .before .before .before .before .nearest-w .ensures) _ (c .before .before .before .before .edge-spans .ensures)
@@ -75,7 +75,7 @@ same-length : tie.Need-same-length Inv-loop μ-loop
 same-length c = c .before .loop .inv .long
 
 returns : tie.Need-returns Inv-loop μ-loop
-returns c = 
+returns c =
     let a = c .before .before .before .before .before .before .before in
     let l = c .before .loop in
     scattered-all (a .args .k) (a .args .floats .now) (a .args .x) (a .args .total) (a .args .n) (a .args .words .now) (a .pre) (c .before .before .before .starts-w .result) (c .before .before .before .starts-w .ensures) (c .before .before .wide .result) (c .before .before .wide .ensures) (l .words) (l .r) (omega arith) (l .inv)

@@ -37,7 +37,7 @@ next c =
     (omega (arith, room .0, down, none, at), omega (arith, room .1, down, none, at, long, a .pre .1))
 
 loop-holds : tie.Need-loop-holds Inv-loop μ-loop
-loop-holds c = 
+loop-holds c =
     let a = c .before .args in
     (omega arith, omega arith, refl, put-none (within (a .s .from) (a .s .from)) (a .id) (take (a .refs) (a .w .now)) (drop (a .refs) (a .w .now)) (within-none (a .s .from)))
 
@@ -78,7 +78,7 @@ loop-less : tie.Need-loop-less Inv-loop μ-loop
 loop-less c = search needs
 
 loop-again : tie.Need-loop-again Inv-loop μ-loop
-loop-again c = 
+loop-again c =
     let a = c .before .before .before .before .before in
     let l = c .before .before .before .loop in
     let x = next (c .before .before) in (
@@ -94,7 +94,7 @@ same-length : tie.Need-same-length Inv-loop μ-loop
 same-length c = search needs
 
 returns : tie.Need-returns Inv-loop μ-loop
-returns c = 
+returns c =
     let a = c .before .before .before in
     let l = c .before .loop in
     let e : l .b ≡ a .args .s .from + (a .args .s .to - a .args .s .from) = omega arith in

@@ -1,6 +1,4 @@
 -- `turned`: past the seam, and not. Assumes nothing.
-use borrow.Author.Needs.{needs}
-use native.Mathlib.Omega.{arith}
 use Rattle.index.proofs.turned.Statement.{statement}
 use Rattle.index.proofs.turned.Tie as tie
 

@@ -1,0 +1,2 @@
+-- The laws behind the answers.
+pub mod Outcomes

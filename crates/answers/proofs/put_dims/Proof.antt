@@ -1,0 +1,19 @@
+-- `put_dims`: columns and rows, or zeros. Assumes nothing.
+use borrow.Author.Needs.{needs}
+use Rattle.answers.proofs.put_dims.Statement.{statement}
+use Rattle.answers.proofs.put_dims.Tie as tie
+
+enum-known-a : tie.Need-enum-known-a
+enum-known-a c = search needs
+
+enum-told : tie.Need-enum-told
+enum-told c = search needs
+
+returns : tie.Need-returns
+returns c = cc
+
+returns-2 : tie.Need-returns-2
+returns-2 c = cc
+
+pub put-dims-spec : {M : Type 1} → statement M
+put-dims-spec = tie.close (tie.spec enum-known-a enum-told returns returns-2)

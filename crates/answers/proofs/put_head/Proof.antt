@@ -1,0 +1,21 @@
+-- `put_head`: the six floats of the head, or zeros. Assumes nothing.
+use mathlib.Core.Path.{sym, ap}
+use Rattle.answers.specs.Numbers.{madeFloats}
+use borrow.Author.Needs.{needs}
+use Rattle.answers.proofs.put_head.Statement.{statement}
+use Rattle.answers.proofs.put_head.Tie as tie
+
+enum-known-a : tie.Need-enum-known-a
+enum-known-a c = search needs
+
+enum-told : tie.Need-enum-told
+enum-told c = search needs
+
+returns : tie.Need-returns
+returns c = sym (ap madeFloats (c .before .before .before .before .a .given .1))
+
+returns-2 : tie.Need-returns-2
+returns-2 c = sym (ap madeFloats (c .before .enum-told .given .1))
+
+pub put-head-spec : {M : Type 1} → statement M
+put-head-spec = tie.close (tie.spec enum-known-a enum-told returns returns-2)

@@ -1,0 +1,3 @@
+-- What the functions of `answers` mean.
+pub mod Numbers
+pub mod Outcomes

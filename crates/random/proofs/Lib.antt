@@ -1,0 +1,8 @@
+-- Laws behind the proofs of `random`, and the theorems: Inside, Refusing, RandomSound, Only.
+pub mod Drawing
+pub mod Ways
+pub mod Turns
+pub mod Inside
+pub mod Refusing
+pub mod RandomSound
+pub mod Only

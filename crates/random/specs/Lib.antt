@@ -1,0 +1,4 @@
+-- What the functions of `random` mean.
+pub mod Draws
+pub mod Outcome
+pub mod Samples

@@ -1,0 +1,3 @@
+-- What the functions of `rays` mean.
+pub mod Samples
+pub mod Stands
