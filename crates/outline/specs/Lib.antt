@@ -1,0 +1,2 @@
+-- What the functions of `outline` mean.
+pub mod Outline

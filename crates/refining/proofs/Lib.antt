@@ -1,0 +1,3 @@
+-- What the proofs of `refining` share.
+pub mod Ways
+pub mod Halves

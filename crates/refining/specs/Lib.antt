@@ -1,0 +1,2 @@
+-- What the functions of `refining` mean.
+pub mod Refine

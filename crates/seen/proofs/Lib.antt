@@ -1,0 +1,5 @@
+-- What the proofs of `seen` share, and the theorem of the corners gathered.
+pub mod Visible
+pub mod Gathered
+pub mod Turns
+pub mod Pushes

@@ -1,0 +1,2 @@
+-- What the functions of `seen` mean.
+pub mod Seen

@@ -1,0 +1,224 @@
+-- Each way through the functions of one sample and of two, over plain values, and their counts; and the turns of an arc. Assumes nothing.
+use mathlib.Core.Path.{_≡_, refl, sym, _∙_, ap}
+use mathlib.Core.Bool.{Bool, true, false}
+use mathlib.Core.List.{List}
+use Prim.Native.Nat.{ℕ, suc, _+_, _-_, _*_, _≤_, _<_}
+use native.Mathlib.Numerals.{add-one}
+use native.Mathlib.Omega.{arith}
+use lib.ListN.{length, getD}
+use lib.Ieee.{Float, lt}
+use borrow.Author.Tests.{lt-ltb, le-ltb, eq-eqb, ne-eqb}
+use Rattle.num.specs.Ops.{_⊕_, _⊖_, _⊗_, _⊘_}
+use Rattle.lists.specs.Parts.{part}
+use Rattle.geom.specs.declared.Vec2.{Vec2}
+use Rattle.grid.specs.Range.{countF}
+use Rattle.site.specs.declared.Cast.the-variants.{Hit, Miss}
+use Rattle.room.specs.declared.Rooms.{Rooms}
+use Rattle.room.specs.declared.Sample.{Sample}
+use Rattle.room.specs.Layout.{orderW, seenW}
+use Rattle.room.specs.Records.{sampleAt}
+use Rattle.cone.specs.declared.View.{View}
+use Rattle.cone.specs.Cone.{three}
+use Rattle.index.specs.declared.AngularIndex.{AngularIndex}
+use Rattle.outline.specs.declared.Trace.{Trace}
+use Rattle.outline.specs.Outline.{corner, none, Out, out, pushOf, Pushed, Own, owned, ownOf, Room, Grown}
+use Rattle.refining.specs.Refine.{pointOf, castIn, Env, env, Run, runAt, endOf, refineOf, Ready, Done}
+use Rattle.seen.specs.Seen.{scene, seeOf}
+use Rattle.seen.proofs.Pushes.{pushed-none, pushed-more}
+use Rattle.sweep.specs.declared.Next.{Next}
+use Rattle.sweep.specs.declared.Next.the-variants.{To, Last}
+use Rattle.sweep.specs.Sweep.{angleEps, sampleIn, isPair, turned, nextIn, emitOf, Emitted, stepsOf, arcPoint, arcOf, gapOf, Course, betweenOf, visitOf, startOf, beginOf, sweepOf, Swept}
+
+-- ---- the samples
+pub sample-is : (k : Rooms) (floats : List Float) (words : List ℕ) (i : ℕ) {a j m : ℕ} {s : Sample} → a ≡ orderW k → j ≡ i → m ≡ getD words (a + j) 0 → s ≡ sampleAt k floats words m
+    → s ≡ sampleIn k floats words i
+unfolding sampleIn
+sample-is k floats words i {a} {j} ha hj hm hs = hs ∙ ap (sampleAt k floats words) (hm ∙ ap (λ (q : ℕ). getD words (q + j) 0) ha ∙ ap (λ (q : ℕ). getD words (orderW k + q) 0) hj)
+
+module _ (full : Bool) (at : ℕ → Sample) (n i : ℕ) {s : Sample} where
+  pub next-more : i + 1 < n → s ≡ at (i + 1) → To s ≡ nextIn full at n i
+  unfolding nextIn
+  next-more h e = rw (lt-ltb (i + 1) n h, e)
+
+  pub next-turn : n ≤ i + 1 → full ≡ true → s ≡ at 0 → To (turned s) ≡ nextIn full at n i
+  unfolding nextIn
+  next-turn h f e = rw (le-ltb (i + 1) n h, f, e)
+
+pub next-last : (full : Bool) (at : ℕ → Sample) (n i : ℕ) → n ≤ i + 1 → full ≡ false → Last ≡ nextIn full at n i
+unfolding nextIn
+next-last full at n i h f = rw (le-ltb (i + 1) n h, f)
+
+-- ---- `emit`
+module _ (view : View) (room : ℕ) (owners : List ℕ) (a : Sample) (pts : List Float) (marks : List ℕ) (s : Trace) {p : Vec2} (hp : p ≡ pointOf view (a .angle) (a .hit)) where
+  pub emit-hit : {t : Float} {e : ℕ} → a .hit ≡ Hit t e → {m2 : List ℕ} {s2 : Trace} → owned m2 s2 ≡ ownOf room owners e marks s
+      → {p3 : List Float} {s3 : Trace} → out p3 s3 ≡ pushOf (view .o) p e pts s2 → runAt p3 m2 s3 ≡ emitOf view room owners a (runAt pts marks s)
+  unfolding emitOf
+  emit-hit {t} {e} x {m2} {s2} h2 {p3} {s3} h3 =
+      let q : p ≡ pointOf view (a .angle) (Hit t e) = hp ∙ ap (pointOf view (a .angle)) x in
+      rw x
+      (ap (λ (u : Out). runAt (u .pts) m2 (u .at)) (h3 ∙ ap (λ (y : Vec2). pushOf (view .o) y e pts s2) q)
+      ∙ ap
+      (λ (w : Own). runAt (pushOf (view .o) (pointOf view (a .angle) (Hit t e)) e pts (w .at) .pts) (w .marks) (pushOf (view .o) (pointOf view (a .angle) (Hit t e)) e pts (w .at) .at))
+      h2)
+
+  pub emit-miss : a .hit ≡ Miss → {p2 : List Float} {s2 : Trace} → out p2 s2 ≡ pushOf (view .o) p corner pts s → runAt p2 marks s2 ≡ emitOf view room owners a (runAt pts marks s)
+  unfolding emitOf
+  emit-miss x {p2} {s2} h =
+      let q : p ≡ pointOf view (a .angle) Miss = hp ∙ ap (pointOf view (a .angle)) x in
+      rw x (ap (λ (u : Out). runAt (u .pts) marks (u .at)) (h ∙ ap (λ (y : Vec2). pushOf (view .o) y corner pts s) q))
+
+pub pushed-room : {l room : ℕ} {s r : Trace} → Room room s → Pushed l s r → Room room r
+pushed-room h q = record { most = omega (arith, h .most, q .owners); within = λ z. omega (arith, h .within (q .open-before z), q .owners) }
+
+pub emitted-miss : {l room : ℕ} {s r : Trace} → Room room s → Pushed l s r → Emitted l room s r
+emitted-miss h q = record { points = q .within; owners = pushed-room h q; up = omega (arith, q .owners); casts = q .refinements }
+
+pub emitted-hit : {l room : ℕ} {s t r : Trace} → Grown room s t → Pushed l t r → Emitted l room s r
+emitted-hit g q = record { points = q .within; owners = pushed-room (g .entries) q; up = omega (arith, g .up, q .owners); casts = q .refinements ∙ g .refinements }
+
+-- ---- an arc
+pub arc-point-is : (view : View) (angle gap : Float) (steps i : ℕ) {x y : Float} {p : Vec2} → x ≡ countF i → y ≡ countF steps → p ≡ pointOf view (angle ⊕ gap ⊗ x ⊘ y) Miss → p ≡ arcPoint view angle gap steps i
+unfolding arcPoint
+arc-point-is view angle gap steps i hx hy hp = rw (hp, hx, hy)
+
+pub record Arcing (view : View) (angle gap : Float) (steps : ℕ) (pts₀ : List Float) (s : Trace) (pts : List Float) (t : Trace) (i : ℕ) : Type 0 where
+  pub long : length pts ≡ length pts₀
+  pub counts : Pushed (length pts₀) s t
+  pub run : arcOf view angle gap steps i (steps - i) (out pts t) ≡ arcOf view angle gap steps 1 (steps - 1) (out pts₀ s)
+
+module _ (view : View) (angle gap : Float) (steps : ℕ) (pts₀ : List Float) (s : Trace) where
+  pub arc-none : 2 * s .points ≤ length pts₀ → Arcing view angle gap steps pts₀ s pts₀ s 1
+  arc-none h = record { long = refl; counts = pushed-none h; run = refl }
+
+  module _ (pts : List Float) (t : Trace) (i : ℕ) (so : Arcing view angle gap steps pts₀ s pts t i) where
+    pub arc-more : i < steps → (pts' : List Float) (t' : Trace) {p : Vec2} → p ≡ arcPoint view angle gap steps i → out pts' t' ≡ pushOf (view .o) p corner pts t → length pts' ≡ length pts
+        → Pushed (length pts) t t' → Arcing view angle gap steps pts₀ s pts' t' (i + 1)
+    unfolding arcOf
+    arc-more h pts' t' hp e k q =
+        let z : steps - i ≡ suc (steps - (i + 1)) = omega arith in
+        let r : arcOf view angle gap steps i (suc (steps - (i + 1))) (out pts t) ≡ arcOf view angle gap steps 1 (steps - 1) (out pts₀ s)
+        = ap (λ (m : ℕ). arcOf view angle gap steps i m (out pts t)) (sym z) ∙ so .run in
+        record {
+          long = k ∙ so .long;
+          counts = pushed-more (so .long) (so .counts) q;
+          run =
+              ap (λ (m : ℕ). arcOf view angle gap steps m (steps - (i + 1)) (out pts' t')) (add-one i)
+              ∙ ap (arcOf view angle gap steps (suc i) (steps - (i + 1))) (e ∙ ap (λ (y : Vec2). pushOf (view .o) y corner pts t) hp)
+              ∙ r;
+        }
+
+    pub arc-end : steps ≤ i → out pts t ≡ arcOf view angle gap steps 1 (steps - 1) (out pts₀ s)
+    unfolding arcOf
+    arc-end h = let z : steps - i ≡ 0 = omega arith in ap (λ (m : ℕ). arcOf view angle gap steps i m (out pts t)) (sym z) ∙ so .run
+
+-- ---- `fill_gap`
+module _ (v : Env) (step : Float) (a b : Sample) (pts : List Float) (marks : List ℕ) (s : Trace) where
+  module _ {t : Float} {e : ℕ} (x : a .hit ≡ Hit t e) where
+    pub gap-leave : b .hit ≡ Miss → runAt pts marks s ≡ gapOf v step a b (runAt pts marks s)
+    unfolding gapOf
+    gap-leave y = rw (x, y)
+
+    module _ {u : Float} {f : ℕ} (y : b .hit ≡ Hit u f) where
+      pub gap-same : e ≡ f → runAt pts marks s ≡ gapOf v step a b (runAt pts marks s)
+      unfolding gapOf
+      gap-same h = rw (x, y) (rw (eq-eqb e f h))
+
+      pub gap-close : (e ≡ f → ⊥) → lt (three ⊗ angleEps) (b .angle ⊖ a .angle) ≡ false → runAt pts marks s ≡ gapOf v step a b (runAt pts marks s)
+      unfolding gapOf
+      gap-close h k = rw (x, y) (rw (ne-eqb e f h, k))
+
+      pub gap-refine : (e ≡ f → ⊥) → lt (three ⊗ angleEps) (b .angle ⊖ a .angle) ≡ true → {q : Run} → q ≡ refineOf v 33 (endOf (a .angle) e) (endOf (b .angle) f) (runAt pts marks s)
+          → q ≡ gapOf v step a b (runAt pts marks s)
+      unfolding gapOf
+      gap-refine h k r = rw (x, y) (rw (ne-eqb e f h, k) r)
+
+  module _ (x : a .hit ≡ Miss) where
+    pub gap-enter : {u : Float} {f : ℕ} → b .hit ≡ Hit u f → runAt pts marks s ≡ gapOf v step a b (runAt pts marks s)
+    unfolding gapOf
+    gap-enter y = rw (x, y)
+
+    pub gap-arc : b .hit ≡ Miss → {n : ℕ} → n ≡ stepsOf (b .angle ⊖ a .angle) step → {p2 : List Float} {s2 : Trace}
+        → out p2 s2 ≡ arcOf (v .view) (a .angle) (b .angle ⊖ a .angle) n 1 (n - 1) (out pts s) → runAt p2 marks s2 ≡ gapOf v step a b (runAt pts marks s)
+    unfolding gapOf
+    gap-arc y hn h =
+        rw (x, y)
+        (ap (λ (u : Out). runAt (u .pts) marks (u .at)) (h ∙ ap (λ (m : ℕ). arcOf (v .view) (a .angle) (b .angle ⊖ a .angle) m 1 (m - 1) (out pts s)) hn))
+
+pub done-pushed : {l room : ℕ} {s r : Trace} → Ready l room s → Pushed l s r → Done l room s r
+done-pushed h q = record { points = q .within; owners = pushed-room (h .owners) q; up = omega (arith, q .owners); casts = omega (arith, q .owners, q .refinements) }
+
+-- ---- `between`
+module _ (c : Course) (a b : Sample) (pts : List Float) (marks : List ℕ) (s : Trace) {q : Bool} (hq : q ≡ isPair a b) where
+  pub between-pair : q ≡ true → {p2 : List Float} {s2 : Trace}
+      → out p2 s2 ≡ seeOf (scene (c .env .view) (c .env .points) (c .env .polygons) (c .env .owners) (a .hit) (b .hit)) (c .seen) (c .corners (a .event)) (out pts s)
+      → runAt p2 marks s2 ≡ betweenOf c a b (runAt pts marks s)
+  unfolding betweenOf
+  between-pair t h = rw (sym hq, t) (ap (λ (u : Out). runAt (u .pts) marks (u .at)) h)
+
+  pub between-gap : q ≡ false → {r : Run} → r ≡ gapOf (c .env) (c .step) a b (runAt pts marks s) → r ≡ betweenOf c a b (runAt pts marks s)
+  unfolding betweenOf
+  between-gap t h = rw (sym hq, t) h
+
+-- what is read of the words in front of the last stretch, whose place is what a call answers
+pub gap-front : (k : Rooms) (x : AngularIndex) (floats : List Float) (words : List ℕ) (view : View) (points : List Float) (polygons owners : List ℕ) (step : Float) (a b : Sample) (s : Run) {w : ℕ} {r : Run}
+    → w ≡ seenW k → r ≡ gapOf (env (castIn k x floats (part 0 w words) view) view points polygons owners (k .owners)) step a b s
+    → r ≡ gapOf (env (castIn k x floats (part 0 (seenW k) words) view) view points polygons owners (k .owners)) step a b s
+gap-front k x floats words view points polygons owners step a b s hw h =
+    h ∙ ap (λ (q : ℕ). gapOf (env (castIn k x floats (part 0 q words) view) view points polygons owners (k .owners)) step a b s) hw
+
+pub sample-front : (k : Rooms) (floats : List Float) (words : List ℕ) (i : ℕ) {w : ℕ} {s : Sample} → w ≡ seenW k → s ≡ sampleIn k floats (part 0 w words) i → s ≡ sampleIn k floats (part 0 (seenW k) words) i
+sample-front k floats words i hw h = h ∙ ap (λ (q : ℕ). sampleIn k floats (part 0 q words) i) hw
+
+pub next-front : (k : Rooms) (floats : List Float) (words : List ℕ) (full : Bool) (n i : ℕ) {w : ℕ} {s : Next} → w ≡ seenW k → s ≡ nextIn full (sampleIn k floats (part 0 w words)) n i
+    → s ≡ nextIn full (sampleIn k floats (part 0 (seenW k) words)) n i
+next-front k floats words full n i hw h = h ∙ ap (λ (q : ℕ). nextIn full (sampleIn k floats (part 0 q words)) n i) hw
+
+-- ---- `visit`
+module _ (c : Course) (a' : Sample) (n' : Next) (s : Run) {a : Sample} (ha : a ≡ a') {next : Next} (hn : next ≡ n') {t : Run} (ht : t ≡ emitOf (c .env .view) (c .env .room) (c .env .owners) a s) where
+  emitted : t ≡ emitOf (c .env .view) (c .env .room) (c .env .owners) a' s
+  emitted = ht ∙ ap (λ (q : Sample). emitOf (c .env .view) (c .env .room) (c .env .owners) q s) ha
+
+  pub visit-to : {b : Sample} → next ≡ To b → {r : Run} → r ≡ betweenOf c a b t → r ≡ visitOf c a' n' s
+  unfolding visitOf
+  visit-to {b} e h =
+      rw (sym hn, e) (h ∙ ap (λ (q : Sample). betweenOf c q b t) ha ∙ ap (betweenOf c a' b) emitted)
+
+  pub visit-last : next ≡ Last → t ≡ visitOf c a' n' s
+  unfolding visitOf
+  visit-last e = rw (sym hn, e) emitted
+
+pub ready-emitted : {l room : ℕ} {s t : Trace} {m : ℕ} → m ≡ l → Ready l room s → Emitted l room s t → Ready m room t
+ready-emitted e h q = record { points = omega (arith, q .points); owners = q .owners; casts = omega (arith, h .casts, q .up, q .casts) }
+
+pub done-emitted : {l room : ℕ} {s t : Trace} → Emitted l room s t → Done l room s t
+done-emitted q = record { points = q .points; owners = q .owners; up = q .up; casts = omega (arith, q .up, q .casts) }
+
+pub done-between : {l m room : ℕ} {s t r : Trace} → m ≡ l → Emitted l room s t → Done m room t r → Done l room s r
+done-between e q d = record { points = omega (arith, d .points); owners = d .owners; up = omega (arith, q .up, d .up); casts = omega (arith, q .up, q .casts, d .casts) }
+
+-- ---- `begin` and `sweep`
+module _ (view : View) (pts : List Float) {t : Trace} (ht : t ≡ none) where
+  pub begin-full : view .full ≡ true → out pts t ≡ startOf view (out pts none)
+  unfolding startOf
+  begin-full f = rw f (ap (out pts) ht)
+
+  pub begin-post : view .full ≡ false → {u : Out} → u ≡ pushOf (view .o) (view .o) corner pts t → u ≡ startOf view (out pts none)
+  unfolding startOf
+  begin-post f h = rw f (h ∙ ap (pushOf (view .o) (view .o) corner pts) ht)
+
+pub pushed-from : {l : ℕ} {s t r : Trace} → s ≡ t → Pushed l s r → Pushed l t r
+pushed-from e q = rw e at q
+
+pub swept : (c : Course) (l : List Sample) (view : View) (pts pts' : List Float) (marks : List ℕ) (s : Trace) {r : Run} → out pts' s ≡ startOf view (out pts none)
+    → r ≡ sweepOf c l (runAt pts' marks s) → r ≡ sweepOf c l (beginOf view pts marks)
+unfolding beginOf
+swept c l view pts pts' marks s h e = e ∙ ap (λ (u : Out). sweepOf c l (runAt (u .pts) marks (u .at))) h
+
+pub begin-none : {l : ℕ} {t : Trace} → t ≡ none → Pushed l none t
+begin-none {l} h = let q : Pushed l none none = pushed-none (omega arith) in rw h q
+
+pub begin-few : {l : ℕ} {t : Trace} → t ≡ none → 2 * t .points ≤ l
+begin-few h = omega (arith, ap (λ (q : Trace). q .points) h)
+
+pub swept-long : {k : Rooms} {l m n : ℕ} {r : Trace} → m ≡ l → Swept k m n r → Swept k l n r
+swept-long e h = record { points = omega (arith, h .points); owners = h .owners; casts = h .casts }

@@ -1,0 +1,3 @@
+-- What the functions of `sweep` mean.
+pub mod Sweep
+pub mod Recorder
