@@ -1,4 +1,4 @@
--- Samples of document 01, computed by the definitions: cell (as bits), columns and rows. Assumes nothing.
+-- A sample at the edge of the domain, computed by the definitions: cell (as bits), columns and rows. Document 01's own samples are in crate `samples`. Assumes nothing.
 use mathlib.Core.Path.{_≡_, refl}
 use Prim.Native.Nat.{ℕ}
 use mathlib.Core.List.{List, [], _∷_, map}
@@ -21,16 +21,6 @@ headBy w h bs =
 -- the head of a site of width w and height h, whose polygons have these points
 unfoldable pub headOf : ℕ → ℕ → List (List Float) → List ℕ
 headOf w h ps = headBy (countF w) (countF h) (map polygonBoxOf ps)
-
--- P1: site A, 10 by 10, the square (2,2), (4,2), (4,4), (2,4): cell 2, six columns, six rows
-pub one-square : headOf 10 10 (map countF (2 ∷ 2 ∷ 4 ∷ 2 ∷ 4 ∷ 4 ∷ 2 ∷ 4 ∷ []) ∷ []) ≡ 0x4000_0000_0000_0000 ∷ 6 ∷ 6 ∷ []
-unfolding headOf polygonBoxOf fromPointsOf boxUpTo includeOf unionOf isEmptyOf widthOf heightOf minOf maxOf floorOf sqrtOf columnsOf boundsOf sideOf sidesOf cellFrom cellSizeOf colsOf rowsOf ofInt ofBits toBits add sub mul div le lt isNan toUnsigned
-one-square = refl
-
--- P5: no polygons, 10 by 4: cell 10, two columns, one row
-pub no-polygons : headOf 10 4 [] ≡ 0x4024_0000_0000_0000 ∷ 2 ∷ 1 ∷ []
-unfolding headOf unionOf isEmptyOf widthOf heightOf maxOf floorOf columnsOf boundsOf sideOf sidesOf cellFrom cellSizeOf colsOf rowsOf ofInt ofBits toBits sub div lt isNan toUnsigned
-no-polygons = refl
 
 -- the most columns there are: a flat polygon at the left end of the domain, the site to its right end: cell 1, 2,000,001 columns (building then refuses: too many cells)
 pub most-columns : headOf 1000000 0 ((ofInt binary64 (negsuc 999999) ∷ countF 0 ∷ ofInt binary64 (negsuc 999998) ∷ countF 0 ∷ ofInt binary64 (negsuc 999998) ∷ countF 0 ∷ []) ∷ []) ≡ 0x3ff0_0000_0000_0000 ∷ 2000001 ∷ 1 ∷ []

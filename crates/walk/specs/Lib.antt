@@ -2,4 +2,3 @@
 pub mod Clipping
 pub mod Steps
 pub mod Tours
-pub mod Samples

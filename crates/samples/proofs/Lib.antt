@@ -1,0 +1,2 @@
+-- The samples' claim.
+pub mod SamplesHold
