@@ -4,7 +4,7 @@
 //! with one line more, which notes the cell that a walk enters.
 
 mod bench;
-mod lines;
+pub mod lines;
 pub mod questions;
 pub mod sites;
 

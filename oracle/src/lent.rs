@@ -96,6 +96,91 @@ with_site! {
     fn bf_inner_cast_ray(ox: f64, oy: f64, dx: f64, dy: f64, length: f64, t: &mut f64, found: &mut [u64; 3]);
 }
 
+/// A view: the post, its range, direction and opening angle.
+#[derive(Clone, Copy, Debug)]
+pub struct Cone {
+    pub post: (f64, f64),
+    pub range: f64,
+    pub direction: f64,
+    pub fov: f64,
+}
+
+/// The entries allowed to each work list of an outline, in document 01's order: ids of the box query,
+/// front edges, unmerged events, kept-aside corners, samples, bucket starts, angular references,
+/// owners, corners seen at one event.
+pub type Entries = [u32; 9];
+
+/// Floats and words that so many entries take (docs/ROOM.md).
+pub fn room_for(k: Entries) -> (usize, usize) {
+    let [
+        ids,
+        edges,
+        events,
+        corners,
+        samples,
+        starts,
+        refs,
+        _owners,
+        seen,
+    ] = k.map(|n| n as usize);
+    (
+        7 * edges + 2 * events + 2 * samples,
+        ids + 3 * edges + 7 * events + 2 * corners + 6 * samples + starts + refs + seen,
+    )
+}
+
+/// What is lent for an outline.
+#[derive(Clone, PartialEq, Debug)]
+pub struct Work {
+    pub marks: Vec<u32>,
+    pub epoch: u32,
+    pub floats: Vec<f64>,
+    pub words: Vec<u32>,
+    pub outline: Vec<f64>,
+    pub visible: Vec<u32>,
+}
+
+macro_rules! outline_call {
+    ($lib:literal, $name:ident) => {
+        #[link(name = $lib, kind = "static")]
+        unsafe extern "C" {
+            fn $name(
+                head: &[f64; 6],
+                counts: &[u32; 5],
+                points: *const f64,
+                points_len: usize,
+                boxes: *const f64,
+                boxes_len: usize,
+                polygons: *const u32,
+                polygons_len: usize,
+                owners: *const u32,
+                owners_len: usize,
+                starts: *const u32,
+                starts_len: usize,
+                items: *const u32,
+                items_len: usize,
+                cone: &[f64; 5],
+                tolerance: f64,
+                entries: &[u32; 9],
+                marks: *mut u32,
+                marks_len: usize,
+                epoch: &mut u32,
+                floats: *mut f64,
+                floats_len: usize,
+                words: *mut u32,
+                words_len: usize,
+                outline: *mut f64,
+                outline_len: usize,
+                visible: *mut u32,
+                visible_len: usize,
+                answer: &mut [u64; 9],
+            ) -> u32;
+        }
+    };
+}
+outline_call!("exports_view", bf_compute_visibility);
+outline_call!("exports_view", bf_inner_compute_visibility);
+
 #[link(name = "exports_scene", kind = "static")]
 unsafe extern "C" {
     #[rustfmt::skip]
@@ -394,4 +479,65 @@ impl Lent {
             epoch
         )
     }
+
+    /// An outline: the status, and blocked, full, points, visible ids, candidates, front edges, events,
+    /// samples and refinements.
+    pub fn outline(&self, cone: Cone, tolerance: f64, k: Entries, w: &mut Work) -> (u32, [u64; 9]) {
+        self.draw(bf_compute_visibility, cone, tolerance, k, w)
+    }
+
+    /// The same without the test of the tables, for a site that building has made.
+    pub fn inner_outline(
+        &self,
+        cone: Cone,
+        tolerance: f64,
+        k: Entries,
+        w: &mut Work,
+    ) -> (u32, [u64; 9]) {
+        self.draw(bf_inner_compute_visibility, cone, tolerance, k, w)
+    }
+
+    fn draw(
+        &self,
+        f: Draw,
+        cone: Cone,
+        tolerance: f64,
+        k: Entries,
+        w: &mut Work,
+    ) -> (u32, [u64; 9]) {
+        let mut answer = [u64::MAX; 9];
+        let five = [
+            cone.post.0,
+            cone.post.1,
+            cone.range,
+            cone.direction,
+            cone.fov,
+        ];
+        let status = ask!(
+            f,
+            self,
+            &five,
+            tolerance,
+            &k,
+            w.marks.as_mut_ptr(),
+            w.marks.len(),
+            &mut w.epoch,
+            w.floats.as_mut_ptr(),
+            w.floats.len(),
+            w.words.as_mut_ptr(),
+            w.words.len(),
+            w.outline.as_mut_ptr(),
+            w.outline.len(),
+            w.visible.as_mut_ptr(),
+            w.visible.len(),
+            &mut answer
+        );
+        (status, answer)
+    }
 }
+
+#[rustfmt::skip]
+type Draw = unsafe extern "C" fn(
+    &[f64; 6], &[u32; 5], *const f64, usize, *const f64, usize, *const u32, usize, *const u32, usize, *const u32, usize, *const u32, usize,
+    &[f64; 5], f64, &[u32; 9], *mut u32, usize, &mut u32, *mut f64, usize, *mut u32, usize, *mut f64, usize, *mut u32, usize, &mut [u64; 9],
+) -> u32;

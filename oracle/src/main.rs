@@ -2,7 +2,7 @@
 //!
 //!     compare [module..]   every module, or those named; exit status 1 if a comparison fails
 //!     bench [module..]     times, which decide nothing
-//!     sample FILE          writes the sample for crate `replay`, and reads it back
+//!     sample FILE FILE     writes the samples for crates `replay` and `replay_sites`, and reads them back
 //!
 //! A further crate is compared by a module of its own here, with an entry in a list below.
 
@@ -27,6 +27,8 @@ mod scene;
 #[cfg(published)]
 mod sites;
 mod util;
+#[cfg(published)]
+mod view;
 
 use std::ffi::{CStr, c_char};
 use std::process::ExitCode;
@@ -79,6 +81,11 @@ const WITH_PUBLISHED: &[Module] = &[
         bench: scene::bench,
     },
     Module {
+        name: "view",
+        compare: view::compare,
+        bench: view::bench,
+    },
+    Module {
         name: "published",
         compare: published::compare,
         bench: |_| (),
@@ -87,7 +94,7 @@ const WITH_PUBLISHED: &[Module] = &[
 #[cfg(not(published))]
 const WITH_PUBLISHED: &[Module] = &[];
 
-const USAGE: &str = "usage: compare|bench [module..], or sample FILE";
+const USAGE: &str = "usage: compare|bench [module..], or sample FILE FILE";
 
 fn main() -> ExitCode {
     let words: Vec<String> = std::env::args().skip(1).collect();
@@ -142,10 +149,11 @@ fn compare(modules: &[&Module], part: bool) -> ExitCode {
 
 #[cfg(published)]
 fn sample(words: &[String]) -> ExitCode {
-    let [path] = words else {
+    let [calls, sites] = words else {
         return refuse(USAGE);
     };
-    match sample::write(path) {
+    let both = sample::write(calls).and_then(|a| Ok(scene::lines::write(sites)? && a));
+    match both {
         Ok(true) => ExitCode::SUCCESS,
         Ok(false) => ExitCode::FAILURE,
         Err(why) => {

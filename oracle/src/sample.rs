@@ -110,19 +110,19 @@ fn some_of_each(call: &Call, groups: &[Group]) -> Vec<Vec<u64>> {
 }
 
 /// A float as an argument: as it is, but for the one NaN.
-fn argument(x: f64) -> u64 {
+pub fn argument(x: f64) -> u64 {
     if x.is_nan() { NAN } else { x.to_bits() }
 }
 
 fn lines(asked: &Asked) -> String {
-    let line = |input: &Vec<u64>| {
-        let mut words = vec![asked.number];
-        words.extend(input);
-        words.extend((asked.rust)(input));
-        let words: Vec<String> = words.iter().map(|w| format!("{w:x}")).collect();
-        words.join(" ") + "\n"
-    };
-    asked.inputs.iter().map(line).collect()
+    let one = |input: &Vec<u64>| line(&[&[asked.number], input, &(asked.rust)(input)]);
+    asked.inputs.iter().map(one).collect()
+}
+
+/// A line of these words: a number, arguments, results.
+pub fn line(parts: &[&[u64]]) -> String {
+    let words: Vec<String> = parts.concat().iter().map(|w| format!("{w:x}")).collect();
+    words.join(" ") + "\n"
 }
 
 /// Reads a sample as crate `replay` does, and prints what that prints.
@@ -157,7 +157,8 @@ fn replayed(text: &str, calls: &[Asked]) -> Result<bool, String> {
     Ok(differ == 0)
 }
 
-fn words(line: &str) -> Option<Vec<u64>> {
+/// The words of a line, unless it has others.
+pub fn words(line: &str) -> Option<Vec<u64>> {
     let good = |b: u8| b.is_ascii_digit() || (b'a'..=b'f').contains(&b);
     let word = |w: &str| {
         let fits = (1..=16).contains(&w.len()) && w.bytes().all(good);

@@ -4,7 +4,8 @@
 
 mod bench;
 mod damage;
-mod given;
+pub mod given;
+pub mod lines;
 
 pub use bench::bench;
 

@@ -124,7 +124,7 @@ fn random_of(r: &mut SplitMix64, polygon_count: usize) -> Plan {
     }))
 }
 
-fn many(r: &mut SplitMix64) -> Plan {
+pub fn many(r: &mut SplitMix64) -> Plan {
     let polygons = r.pick(&[1_000, 1_000, 2_000, 3_000, 4_095, 4_096]);
     random_of(r, polygons)
 }

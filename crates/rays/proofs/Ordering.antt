@@ -12,15 +12,17 @@ use lib.Ieee.{Float, nan}
 use borrow.Author.Tests.{lt-ltb, le-ltb}
 use borrow.Rule.Slice.PartMut.{mid-len}
 use Rattle.lists.specs.Lists.{counting, listed}
+use Rattle.lists.specs.Members.{All}
 use Rattle.lists.specs.Parts.{part, Has, Only}
-use Rattle.lists.proofs.Counting.{length-counting}
+use Rattle.lists.proofs.Members.{all-at}
+use Rattle.lists.proofs.Counting.{length-counting, all-counting}
 use Rattle.lists.proofs.Joined.{listed-ext, length-listed, getD-listed}
 use Rattle.lists.proofs.Parts.{getD-part, getD-has}
 use Rattle.lists.proofs.Only.{only-trans, only-wider, only-part}
 use Rattle.sorts.specs.Sort.{sort}
 use Rattle.sorts.specs.By.{keyOrder, keyOrderIf, inOrder}
 use Rattle.sorts.specs.Fronts.{Ordered, KeysFit}
-use Rattle.sorts.proofs.Keyed.{read-order-if, length-order}
+use Rattle.sorts.proofs.Keyed.{read-order-if, length-order, order-below}
 use Rattle.sorts.proofs.Stable.{map-sort}
 use Rattle.cone.specs.declared.View.{View}
 use Rattle.room.specs.declared.Rooms.{Rooms}
@@ -61,6 +63,14 @@ length-order-if keys n = by (inOrder keys)
     by : (b : Bool) → length (cond b (counting 0 n) (keyOrder keys n)) ≡ n
     by true = length-counting 0 n
     by false = length-order keys n
+
+order-if-below : (keys : List Float) (n : ℕ) → All (λ i. i < n) (keyOrderIf keys n)
+unfolding keyOrderIf
+order-if-below keys n = by (inOrder keys)
+  where
+    by : (b : Bool) → All (λ i. i < n) (cond b (counting 0 n) (keyOrder keys n))
+    by true = all-counting (λ i. i < n) 0 n (λ i _ h. omega arith)
+    by false = order-below keys n
 
 -- ---- the order of samples goes by their angles alone
 module _ (view : View) (x : Index) where
@@ -109,6 +119,7 @@ module _ (k : Rooms) (view : View) (x : AngularIndex) (events : ℕ) (f₀ : Lis
     samples = sampled .count;
     over = sym (lt-ltb (k .samples) n h);
     rays = λ q. absurd (let z : _≡_ {A = ℕ} 0 1 = cc in omega arith);
+    below = λ q. absurd (let z : _≡_ {A = ℕ} 0 1 = cc in omega arith);
     floats = e .floats;
     words = only-wider (samplesW k) (seenW k) (omega arith) (omega arith) (e .words);
   }
@@ -142,9 +153,16 @@ module _ (k : Rooms) (view : View) (x : AngularIndex) (events : ℕ) (f₀ : Lis
           let has : Has w₃ c (keyOrderIf (part (samplesF k) (samplesF k + n) f₂) n) = subst (λ (q : ℕ). Has w₃ c (keyOrderIf (part q (q + n) f₂) n)) hat (o .list) in
           let fits : floatsFor k ≤ length f₂ = omega (arith, pre .fit .floats-fit, e .floats .long, cs .floats .long) in
           let kept : samplesIn k f₂ w₃ n ≡ samplesIn k f₂ w₂ n = samples-kept k f₂ f₂ w₂ w₃ n few refl (only-part (samplesW k) (orderW k) o' (inl (omega arith))) in
+          let order = keyOrderIf (part (samplesF k) (samplesF k + n) f₂) n in
+          let long : length order ≡ n = length-order-if (part (samplesF k) (samplesF k + n) f₂) n in
+          let place : (t : ℕ) → t < n → getD w₃ (orderW k + t) 0 < k .samples = λ t l.
+          let at : getD w₃ (orderW k + t) 0 ≡ getD order t 0 = ap (λ (q : ℕ). getD w₃ (q + t) 0) (sym hc) ∙ getD-has w₃ c order t 0 has (omega arith) in
+          let b : getD order t 0 < n = all-at (λ i. i < n) order t 0 (order-if-below (part (samplesF k) (samplesF k + n) f₂) n) (omega arith) in
+          omega arith in
           record {
             samples = sampled .count;
             over = sym (le-ltb (k .samples) n few);
+            below = λ _. place;
             rays = λ _. ordered-is k f₂ w₃ n fits few c hc has ∙ ap orderedOf (kept ∙ answers) ∙ order-cast view (indexIn k f₀ w₀ x) (samplesOf view (turnAt k f₀ w₀) events);
             floats = only-trans (e .floats) (only-wider (samplesF k) (floatsFor k) (omega arith) (omega arith) (cs .floats));
             words = only-trans (only-wider (samplesW k) (seenW k) (omega arith) (omega arith) (only-trans (e .words) (cs .words))) (only-wider (samplesW k) (seenW k) (omega arith) (omega arith) o');

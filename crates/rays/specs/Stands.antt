@@ -75,5 +75,6 @@ pub record Sampled (k : Rooms) (view : View) (x : AngularIndex) (events : ℕ) (
   pub samples : r .samples ≡ length (samplesOf view (turnAt k f w) events)
   pub over : r .over ≡ ltb (k .samples) (r .samples)
   pub rays : r .over ≡ false → raysIn k f' w' (r .samples) ≡ raysCast view (indexIn k f w x) (samplesOf view (turnAt k f w) events)
+  pub below : r .over ≡ false → (t : ℕ) → t < r .samples → getD w' (orderW k + t) 0 < k .samples
   pub floats : Only (samplesF k) (floatsFor k) f f'
   pub words : Only (samplesW k) (seenW k) w w'

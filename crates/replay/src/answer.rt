@@ -1,5 +1,7 @@
 // What a call of numbers answers: a few words, the rest 0.
-use crate::words::put;
+use lines::pattern;
+use lines::push;
+use lines::wide;
 
 pub struct Answer {
     pub count: usize,
@@ -12,14 +14,6 @@ pub(crate) fn nothing() -> Answer {
         count: 0,
         words: [0; 5],
     }
-}
-
-fn pattern(x: f64) -> u64 {
-    num::to_bits(x + 0.0)
-}
-
-pub(crate) fn wide(x: u32) -> u64 {
-    x as u64
 }
 
 pub(crate) fn word(w: u64) -> Answer {
@@ -100,7 +94,7 @@ pub(crate) fn store(out: &mut [u64], a: Answer) -> usize {
     let words = a.words;
     let mut i: usize = 0;
     while i < 5 {
-        put(out, i, words[i]);
+        push(&mut *out, i, words[i]);
         i += 1;
     }
     a.count

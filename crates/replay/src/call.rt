@@ -3,8 +3,8 @@ use crate::answer;
 use crate::answer::Answer;
 use crate::inner;
 use crate::plane;
-use crate::words::float;
-use crate::words::word;
+use lines::float;
+use lines::word;
 
 // num, a number as the answer: 104, 108 and 110
 fn answer_number(f: u64, x: f64, y: f64) -> Answer {

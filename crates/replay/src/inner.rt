@@ -7,27 +7,13 @@ ghost use Rattle.tables.specs.Tables.{Buildable};
 ghost use Rattle.probe.specs.Numbers.{gridOf};
 use crate::answer;
 use crate::answer::Answer;
-use crate::input::push;
 use crate::plane::filled;
-use crate::words::float;
-use crate::words::word;
-
-// The word at i as a number of 32 bits.
-fn narrow(w: &[u64], i: usize) -> u32 {
-    (word(w, i) % 4294967296) as u32
-}
-
-// The first n of a list after the words of out; how many there are then.
-fn push_list(out: &mut [u64], from: usize, list: &[u32], n: usize) -> usize {
-    let mut at = from;
-    let mut i: usize = 0;
-    while i < n {
-        let x = answer::wide(lists::at32(list, i));
-        at = push(&mut *out, at, x);
-        i += 1;
-    }
-    at
-}
+use lines::float;
+use lines::narrow;
+use lines::push;
+use lines::push_list;
+use lines::wide;
+use lines::word;
 
 fn answer_range(w: &[u64]) -> Answer {
     let b = [float(w, 7), float(w, 8), float(w, 9), float(w, 10)];
@@ -45,11 +31,11 @@ fn answer_range(w: &[u64]) -> Answer {
     Answer {
         count: 5,
         words: [
-            answer::wide(n),
-            answer::wide(out[0]),
-            answer::wide(out[1]),
-            answer::wide(out[2]),
-            answer::wide(out[3]),
+            wide(n),
+            wide(out[0]),
+            wide(out[1]),
+            wide(out[2]),
+            wide(out[3]),
         ],
     }
 }
@@ -145,7 +131,7 @@ fn answer_build(w: &[u64], out: &mut [u64]) -> usize {
         return 0;
     }
     let cells = cells_of(cols, rows);
-    let mut at = push(&mut *out, 0, answer::wide(status));
+    let mut at = push(&mut *out, 0, wide(status));
     at = push(&mut *out, at, count);
     at = push_list(&mut *out, at, &starts, cells + 1);
     push_list(&mut *out, at, &items, count as usize)
@@ -202,10 +188,10 @@ fn query(
         &mut *ids,
         &mut counts,
     );
-    let mut at = push(&mut *out, 0, answer::wide(status));
+    let mut at = push(&mut *out, 0, wide(status));
     at = push(&mut *out, at, counts[0]);
     at = push(&mut *out, at, counts[1]);
-    at = push(&mut *out, at, answer::wide(epoch));
+    at = push(&mut *out, at, wide(epoch));
     at = push_list(&mut *out, at, marks, marks.len());
     push_list(&mut *out, at, ids, ids.len())
 }

@@ -5,11 +5,11 @@
 mod answer;
 mod call;
 mod inner;
-mod input;
 mod plane;
-mod words;
 
 use libc::STDOUT_FILENO;
+use lines::input;
+use lines::one_if_not;
 
 fn print(text: &[u8]) {
     io::write_all(STDOUT_FILENO, text);
@@ -21,11 +21,6 @@ struct Tally {
     pub functions: u64,
     pub last: u64,
     pub differ: u64,
-}
-
-// 1 for no, 0 for yes: what a line adds to the count of those that differ.
-fn one_if_not(ok: bool) -> u64 {
-    if ok { 0 } else { 1 }
 }
 
 fn one_if_new(f: u64, last: u64) -> u64 {
@@ -44,8 +39,8 @@ fn counted(t: Tally, f: u64, ok: bool) -> Tally {
 // t with a line of n words counted: its last words are to be what our function answers.
 fn replayed(t: Tally, words: &[u64], n: usize, results: &mut [u64]) -> Tally {
     let r = call::answer(words, n, results);
-    let ok = words::same_tail(words, n, results, r);
-    counted(t, words::word(words, 0), ok)
+    let ok = lines::same_tail(words, n, results, r);
+    counted(t, lines::word(words, 0), ok)
 }
 
 fn report(t: Tally) {

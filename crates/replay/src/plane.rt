@@ -2,9 +2,9 @@
 ghost use Prim.Native.Nat.{_<_};
 use crate::answer;
 use crate::answer::Answer;
-use crate::words::float;
-use crate::words::word;
 use exports::plane;
+use lines::float;
+use lines::word;
 
 // Vec2, a float as its answer: 402 to 408
 fn answer_vec2(f: u64, a: f64, b: f64, c: f64, d: f64) -> Answer {

@@ -65,7 +65,7 @@ fn of_sites(number: u64, make: impl Fn(&mut SplitMix64, &Site, usize) -> Words) 
 }
 
 /// Each kind of question in turn, but more often one that finds something.
-fn kind(i: usize, kinds: usize, good: &[usize]) -> usize {
+pub fn kind(i: usize, kinds: usize, good: &[usize]) -> usize {
     if i.is_multiple_of(3) {
         i / 3 % kinds
     } else {

@@ -8,7 +8,7 @@ use super::tally::Value;
 pub const NAN: u64 = 0x7FF8_0000_0000_0000;
 
 /// A float of an answer: the sign of zero does not count, and all NaNs are one.
-fn pattern(x: f64) -> u64 {
+pub fn pattern(x: f64) -> u64 {
     if x.is_nan() { NAN } else { (x + 0.0).to_bits() }
 }
 

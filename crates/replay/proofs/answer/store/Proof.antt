@@ -15,14 +15,14 @@ abbrev μ-loop : tie.MeasureT-loop
 loop-holds : tie.Need-loop-holds Inv-loop μ-loop
 loop-holds c = search needs
 
-mul-put : tie.Need-mul-put Inv-loop μ-loop
-mul-put c = search needs
+mul-push : tie.Need-mul-push Inv-loop μ-loop
+mul-push c = search needs
 
-array-read-put : tie.Need-array-read-put Inv-loop μ-loop
-array-read-put c = search needs
+array-read-push : tie.Need-array-read-push Inv-loop μ-loop
+array-read-push c = search needs
 
-put-requires : tie.Need-put-requires Inv-loop μ-loop
-put-requires c κs = search needs
+push-requires : tie.Need-push-requires Inv-loop μ-loop
+push-requires c κs = search needs
 
 add-i : tie.Need-add-i Inv-loop μ-loop
 add-i c = search needs
@@ -46,9 +46,9 @@ store-spec =
     Inv-loop
     μ-loop
     loop-holds
-    mul-put
-    array-read-put
-    put-requires
+    mul-push
+    array-read-push
+    push-requires
     add-i
     loop-less
     loop-again

@@ -1,0 +1,2 @@
+-- The law behind the C interface of outlines.
+pub mod Drawing

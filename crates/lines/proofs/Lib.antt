@@ -1,0 +1,2 @@
+-- The laws behind the lines.
+pub mod Words
