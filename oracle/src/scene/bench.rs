@@ -81,7 +81,7 @@ fn building(table: &mut Bench, timed: &Timed, polygons: usize) {
             .polygons()
             .len() as u64
     };
-    table.add(
+    table.add_few(
         &format!("`new`, {polygons} polygons"),
         Limit::None,
         &[[SIDE]; FEW],

@@ -8,6 +8,9 @@ use std::time::Instant;
 /// Runs of each side. The best one counts: other work on the machine only ever adds time.
 const RUNS: usize = 101;
 
+/// The same where one run takes long.
+const FEW_RUNS: usize = 11;
+
 /// Inputs per run: too many for the branch predictor to learn by heart.
 pub const INPUTS: usize = 1 << 16;
 
@@ -104,8 +107,32 @@ impl Bench {
         ours: impl Fn(I) -> u64,
         rust: impl Fn(I) -> u64,
     ) {
+        self.add_runs(RUNS, what, limit, inputs, ours, rust);
+    }
+
+    /// The same with fewer runs, for calls that take long.
+    pub fn add_few<I: Input>(
+        &mut self,
+        what: &str,
+        limit: Limit,
+        inputs: &[I],
+        ours: impl Fn(I) -> u64,
+        rust: impl Fn(I) -> u64,
+    ) {
+        self.add_runs(FEW_RUNS, what, limit, inputs, ours, rust);
+    }
+
+    fn add_runs<I: Input>(
+        &mut self,
+        runs: usize,
+        what: &str,
+        limit: Limit,
+        inputs: &[I],
+        ours: impl Fn(I) -> u64,
+        rust: impl Fn(I) -> u64,
+    ) {
         let (mut a, mut b) = (Best::NONE, Best::NONE);
-        for _ in 0..RUNS {
+        for _ in 0..runs {
             a.run(inputs, &ours);
             b.run(inputs, &rust);
         }

@@ -68,15 +68,15 @@ fn views(
         }
     }
     // The room is cleared as far as it is lent, so no more is lent than is needed.
-    let needs = needs(scene, &posts, range, fov);
+    let (needs, points, ids) = needs(scene, &posts, range, fov);
     let (floats, words) = room_for(needs);
     let work = RefCell::new(Work {
         marks: vec![0; scene.polygons().len()],
         epoch: 0,
         floats: vec![0.0; floats],
         words: vec![0; words],
-        outline: vec![0.0; 2 * 40_000],
-        visible: vec![0; 4_096],
+        outline: vec![0.0; points],
+        visible: vec![0; ids],
     });
     let cone = |[x, y, direction]: [f64; 3]| Cone {
         post: (x, y),
@@ -99,7 +99,7 @@ fn views(
         assert!(status == 0, "room enough");
         answer[2]
     };
-    table.add(
+    table.add_few(
         &format!("outline without the table test, {what}"),
         LIMIT,
         &posts,
@@ -110,11 +110,11 @@ fn views(
         site.outline(cone(p), TOLERANCE, needs, &mut work.borrow_mut())
             .1[2]
     };
-    table.add(&format!("outline, {what}"), Limit::None, &posts, ours, rust);
+    table.add_few(&format!("outline, {what}"), Limit::None, &posts, ours, rust);
 }
 
-/// The greatest needs of the views, by the oracle's seams, and somewhat more.
-fn needs(scene: &Scene, posts: &[[f64; 3]], range: f64, fov: f64) -> Entries {
+/// The greatest needs of the views, by the oracle's seams; numbers of the outline; visible ids.
+fn needs(scene: &Scene, posts: &[[f64; 3]], range: f64, fov: f64) -> (Entries, usize, usize) {
     let plan = Plan {
         size: (SIDE, SIDE),
         rings: (0..scene.polygons().len())
@@ -128,7 +128,7 @@ fn needs(scene: &Scene, posts: &[[f64; 3]], range: f64, fov: f64) -> Entries {
             .collect(),
     };
     let theirs = plan.scene();
-    let mut most = [1; 9];
+    let (mut most, mut points, mut ids) = ([1; 9], 0, 0);
     for &[x, y, direction] in posts {
         let c = Cone {
             post: (x, y),
@@ -140,6 +140,8 @@ fn needs(scene: &Scene, posts: &[[f64; 3]], range: f64, fov: f64) -> Entries {
         for (most, need) in most.iter_mut().zip(seen.needs) {
             *most = need.max(*most);
         }
+        points = seen.outline.len().max(points);
+        ids = seen.visible.len().max(ids);
     }
-    most
+    (most, points, ids)
 }
