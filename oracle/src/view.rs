@@ -4,6 +4,7 @@
 //! counted by the seams of crate `oracle`.
 
 mod bench;
+pub mod lines;
 
 pub use bench::bench;
 
@@ -15,6 +16,7 @@ use crate::util::rng::SplitMix64;
 use crate::util::table::{Table, count};
 use crate::util::tally::{self, Tally, Value};
 use oracle::{Scene, Stamps, Vec2, ViewCone, VisibilityOptions, compute_visibility, seam};
+use std::f64::consts::{FRAC_PI_2, FRAC_PI_4, PI, TAU};
 
 /// Outlines of each site.
 const VIEWS: usize = 12;
@@ -123,7 +125,7 @@ fn cone(r: &mut SplitMix64, scene: &Scene) -> Cone {
         1e-300,
     ]);
     let any = r.between(0.0, 6.3);
-    let sector = r.pick(&[any, any, 1.5707963267948966, 3.141592653589793, 0.1, 1e-6]);
+    let sector = r.pick(&[any, any, FRAC_PI_2, PI, 0.1, 1e-6]);
     let turned = r.pick(&[
         6.2831853062,
         6.2831853061,
@@ -135,13 +137,13 @@ fn cone(r: &mut SplitMix64, scene: &Scene) -> Cone {
         f64::NEG_INFINITY,
         7.0,
     ]);
-    let lattice = r.whole(-8, 8) as f64 * 0.7853981633974483;
+    let lattice = r.whole(-8, 8) as f64 * FRAC_PI_4;
     let any = r.between(-100.0, 100.0);
     Cone {
         post,
         range: r.pick(&[small, small, wide, wide, 100.0, 10.0, odd]),
         direction: r.pick(&[0.0, lattice, any, any, 100.0, -100.0]),
-        fov: r.pick(&[7.0, 6.283185307179586, sector, sector, sector, turned]),
+        fov: r.pick(&[7.0, TAU, sector, sector, sector, turned]),
     }
 }
 
@@ -187,7 +189,7 @@ fn rust(scene: &Scene, c: Cone, tolerance: f64, marks: &[u32], epoch: u32) -> Se
     // The box query, by the public call, on stamps that a caller lends.
     let mut stamps = Stamps::oracle_from(marks.to_vec(), epoch);
     let fov = if cone.is_full() {
-        std::f64::consts::TAU
+        TAU
     } else {
         cone.fov_clamped()
     };

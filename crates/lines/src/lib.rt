@@ -2,9 +2,11 @@
 // A line is a function's number, its arguments and its results, each a word. A float is its bit pattern, a result after adding 0.0.
 // Reads past the end give 0 and writes past the end do nothing, so that no caller has to show an index. Meanings: specs/Words.antt.
 ghost use mathlib.Core.Path.{_≡_};
+ghost use mathlib.Core.Bool.{not};
 ghost use Prim.Native.Nat.{_+_, _≤_};
 ghost use lib.ListN.{length, getD, set};
 ghost use lib.Ieee.{binary64, ofBits, toBits};
+ghost use Rattle.lists.specs.Lists.{bit};
 ghost use Rattle.num.specs.Ops.{_⊕_, zeroF};
 ghost use Rattle.lines.specs.Words.{narrowed, afterPush, sameTail};
 
@@ -115,6 +117,8 @@ pub fn same_tail(words: &[u64], n: usize, results: &[u64], r: usize) -> bool
 }
 
 // 1 for no, 0 for yes: what a line adds to the count of those that differ.
-pub fn one_if_not(ok: bool) -> u64 {
+pub fn one_if_not(ok: bool) -> u64
+    ensures { λ r. ⌜ r ≡ bit (not ok) ⌝ }
+{
     if ok { 0 } else { 1 }
 }

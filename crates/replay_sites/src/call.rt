@@ -1,5 +1,5 @@
-// The lines that ask a site, by number: 602 to 608 are questions. 701 on are for outlines, in a module of their own beside questions.rt.
-// `oracle/src/scene/lines.rs` has the same numbers.
+// The lines that ask a site, by number: 602 to 608 are questions, 701 is an outline. `oracle/src/scene/lines.rs` has the same numbers.
+use crate::outlines;
 use crate::questions;
 use lines::word;
 
@@ -32,5 +32,17 @@ pub(crate) fn answer(
             out,
         );
     }
-    0
+    outlines::answer(
+        f,
+        head,
+        counts,
+        points,
+        boxes,
+        polygons,
+        owners,
+        starts,
+        items,
+        w,
+        out,
+    )
 }

@@ -1,9 +1,10 @@
-// Replays a fixed sample of the Rust's answers over sites, with no Rust at hand, through the C interface that users link (crate `exports_scene`).
+// Replays a fixed sample of the Rust's answers over sites, with no Rust at hand, through the C interface that users link (crates `exports_scene` and `exports_view`).
 // Lines are as in crate `replay`: a number, arguments, results, each a word. A line 601 builds a site into the program's own tables
 // (current.rt), and the lines after it, up to the next 601, ask that site (call.rt).
 // `oracle/run sample` writes the input. The program prints how many lines it read, of how many functions, over how many sites, and how many differ.
 mod call;
 mod current;
+mod outlines;
 mod questions;
 mod results;
 mod tally;
@@ -31,7 +32,7 @@ fn report(t: Tally) {
 fn main() {
     let mut chunk = [0u8; 16384];
     let mut words = [0u64; 2048];
-    let mut results = [0u64; 1280];
+    let mut results = [0u64; 1536];
     let first = input::read_line(&mut chunk, 0, 0, &mut words);
     let mut at = tally::Place {
         tally: tally::none(),

@@ -82,3 +82,43 @@ pub(crate) fn extent(
     at = push(&mut *out, at, pattern(height));
     push_list(&mut *out, at, dims, 2)
 }
+
+// Blocked, full, points and visible ids of an outline.
+fn shape(out: &mut [u64], at: usize, answer: &[u64; 9]) -> usize {
+    let mut next = push(&mut *out, at, answer[0]);
+    next = push(&mut *out, next, answer[1]);
+    next = push(&mut *out, next, answer[2]);
+    push(&mut *out, next, answer[3])
+}
+
+// Its candidates, front edges, events, samples and refinements.
+fn work(out: &mut [u64], at: usize, answer: &[u64; 9]) -> usize {
+    let mut next = push(&mut *out, at, answer[4]);
+    next = push(&mut *out, next, answer[5]);
+    next = push(&mut *out, next, answer[6]);
+    next = push(&mut *out, next, answer[7]);
+    push(&mut *out, next, answer[8])
+}
+
+// An outline: the nine numbers, the points' numbers, the visible ids. More points or ids than there is room for is no answer.
+pub(crate) fn outline(
+    out: &mut [u64],
+    status: u32,
+    answer: &[u64; 9],
+    points: &[f64],
+    visible: &[u32],
+) -> usize {
+    let n = answer[2];
+    if 700 < n {
+        return 0;
+    }
+    let ids = answer[3];
+    if 16 < ids {
+        return 0;
+    }
+    let mut at = push(&mut *out, 0, wide(status));
+    at = shape(&mut *out, at, answer);
+    at = work(&mut *out, at, answer);
+    at = push_floats(&mut *out, at, points, n as usize * 2);
+    push_list(&mut *out, at, visible, ids as usize)
+}

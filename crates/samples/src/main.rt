@@ -1,15 +1,19 @@
-// The samples of document 01 that belong to sites, run: builds each site into lent tables, asks, and prints a line for each sample.
+// The samples of document 01 that belong to sites and posts, run: builds each site into lent tables, asks, and prints a line for each sample.
 // What it prints is compared with the file `stdout` beside src/. That P1 to P10 are so is also proved: specs/Samples.antt and proofs/SamplesHold.antt.
 use build::Made;
+use cone::ViewCone;
 use geom::Aabb;
 use geom::Vec2;
 use grid::Listing;
 use libc::STDOUT_FILENO;
 use rng::Rng;
+use room::Rooms;
 use scene::Found;
 use scene::Look;
 use site::Cast;
 use site::Site;
+use visibility::Shown;
+use visibility::Visibility;
 
 // ---- printing
 
@@ -183,6 +187,82 @@ fn show_ray(
     }
 }
 
+// The entries of each work list; the floats and words of `show_post` are what these take.
+fn rooms() -> Rooms {
+    Rooms {
+        ids: 2,
+        edges: 4,
+        events: 16,
+        corners: 8,
+        samples: 128,
+        starts: 257,
+        refs: 512,
+        owners: 16,
+        seen: 8,
+    }
+}
+
+fn show_shown(s: Shown) {
+    if s.blocked {
+        print(b"blocked\n");
+        return;
+    }
+    if s.points == 0 {
+        print(b"empty\n");
+        return;
+    }
+    if s.full {
+        print(b"full");
+    } else {
+        print(b"a sector");
+    }
+    print_size(b", points ", s.points);
+    print(b"\n");
+}
+
+// The outline of this cone, tolerance 0.1, in room for 128 points and two ids.
+fn show_post(
+    text: &[u8],
+    site: Site,
+    points: &[f64],
+    boxes: &[f64],
+    polygons: &[u32],
+    owners: &[u32],
+    starts: &[u32],
+    items: &[u32],
+    cone: ViewCone,
+) {
+    let mut marks = [0u32; 2];
+    let mut epoch: u32 = 0;
+    let mut floats = [0.0; 316];
+    let mut words = [0u32; 1687];
+    let mut outline = [0.0; 256];
+    let mut visible = [0u32; 2];
+    let r = visibility::compute_visibility(
+        site,
+        points,
+        boxes,
+        polygons,
+        owners,
+        starts,
+        items,
+        cone,
+        visibility::default_tolerance(),
+        rooms(),
+        &mut marks,
+        &mut epoch,
+        &mut floats,
+        &mut words,
+        &mut outline,
+        &mut visible,
+    );
+    print(text);
+    match r {
+        Visibility::Refused(n) => print_refused(n),
+        Visibility::Seen(s) => show_shown(s),
+    }
+}
+
 // ---- the samples
 
 // The box from (low, low) to (high, high).
@@ -272,8 +352,155 @@ fn ask_a(
     );
 }
 
+// A cone from (x, y) along (1, 0).
+fn cone_at(x: f64, y: f64, range: f64, view: f64) -> ViewCone {
+    ViewCone::sector(Vec2 { x, y }, range, 0.0, view)
+}
+
+// Run: posts on site A, the whole way round.
+fn ask_posts(
+    site: Site,
+    points: &[f64],
+    boxes: &[f64],
+    polygons: &[u32],
+    owners: &[u32],
+    starts: &[u32],
+    items: &[u32],
+) {
+    show_post(
+        b"post (2, 3), range 5: ",
+        site,
+        points,
+        boxes,
+        polygons,
+        owners,
+        starts,
+        items,
+        cone_at(2.0, 3.0, 5.0, 7.0),
+    );
+    show_post(
+        b"post (4, 3), range 5: ",
+        site,
+        points,
+        boxes,
+        polygons,
+        owners,
+        starts,
+        items,
+        cone_at(4.0, 3.0, 5.0, 7.0),
+    );
+    show_post(
+        b"post (1, 1), range 0: ",
+        site,
+        points,
+        boxes,
+        polygons,
+        owners,
+        starts,
+        items,
+        cone_at(1.0, 1.0, 0.0, 7.0),
+    );
+    show_post(
+        b"post (1000000, 1), range 5: ",
+        site,
+        points,
+        boxes,
+        polygons,
+        owners,
+        starts,
+        items,
+        cone_at(1000000.0, 1.0, 5.0, 7.0),
+    );
+    show_post(
+        b"post (1000001, 1), range 5: ",
+        site,
+        points,
+        boxes,
+        polygons,
+        owners,
+        starts,
+        items,
+        cone_at(1000001.0, 1.0, 5.0, 7.0),
+    );
+}
+
+// Run: views from (1, 1) on site A, range 5.
+fn ask_views(
+    site: Site,
+    points: &[f64],
+    boxes: &[f64],
+    polygons: &[u32],
+    owners: &[u32],
+    starts: &[u32],
+    items: &[u32],
+) {
+    show_post(
+        b"view 1e-9: ",
+        site,
+        points,
+        boxes,
+        polygons,
+        owners,
+        starts,
+        items,
+        cone_at(1.0, 1.0, 5.0, 0.000000001),
+    );
+    show_post(
+        b"view 2e-9: ",
+        site,
+        points,
+        boxes,
+        polygons,
+        owners,
+        starts,
+        items,
+        cone_at(1.0, 1.0, 5.0, 0.000000002),
+    );
+    show_post(
+        b"view 6.2831853062: ",
+        site,
+        points,
+        boxes,
+        polygons,
+        owners,
+        starts,
+        items,
+        cone_at(1.0, 1.0, 5.0, 6.2831853062),
+    );
+    show_post(
+        b"view 6.2831853061: ",
+        site,
+        points,
+        boxes,
+        polygons,
+        owners,
+        starts,
+        items,
+        cone_at(1.0, 1.0, 5.0, 6.2831853061),
+    );
+}
+
+// The samples to prove, or those about posts, which are only run.
+fn ask(
+    posts: bool,
+    site: Site,
+    points: &[f64],
+    boxes: &[f64],
+    polygons: &[u32],
+    owners: &[u32],
+    starts: &[u32],
+    items: &[u32],
+) {
+    if posts {
+        ask_posts(site, points, boxes, polygons, owners, starts, items);
+        ask_views(site, points, boxes, polygons, owners, starts, items);
+        return;
+    }
+    ask_a(site, points, boxes, polygons, owners, starts, items);
+}
+
 // Site A: 10 by 10, one square.
-fn site_a() {
+fn site_a(posts: bool) {
     let given = [2.0, 2.0, 4.0, 2.0, 4.0, 4.0, 2.0, 4.0];
     let lens = [4u32; 1];
     let mut points = [0.0; 8];
@@ -296,7 +523,16 @@ fn site_a() {
     );
     match r {
         Made::Refused(n) => print_refused(n),
-        Made::Site(site) => ask_a(site, &points, &boxes, &polygons, &owners, &starts, &items),
+        Made::Site(site) => ask(
+            posts,
+            site,
+            &points,
+            &boxes,
+            &polygons,
+            &owners,
+            &starts,
+            &items,
+        ),
     }
 }
 
@@ -462,11 +698,12 @@ fn reach(text: &[u8], far: f64) {
 }
 
 fn main() {
-    site_a();
+    site_a(false);
     site_twice();
     site_bare();
     site_turned();
     draw();
     reach(b"coordinate 1000000 ", 1000000.0);
     reach(b"coordinate 1000001 ", 1000001.0);
+    site_a(true);
 }

@@ -15,11 +15,12 @@ use crate::sites::{self, Plan};
 use crate::util::bits::step;
 use crate::util::call::{floats, pattern};
 use crate::util::rng::SplitMix64;
+use crate::view::lines as outlines;
 use oracle::{Scene, Stamps, seam};
 
 /// Sites that are built, and questions of each function to each.
 const SITES: usize = 60;
-const QUESTIONS: [(u64, usize); 7] = [
+const QUESTIONS: [(u64, usize); 8] = [
     (602, 3),
     (603, 4),
     (604, 4),
@@ -27,6 +28,7 @@ const QUESTIONS: [(u64, usize); 7] = [
     (606, 2),
     (607, 2),
     (608, 1),
+    (701, 9),
 ];
 
 /// What the program has room for: polygons, numbers of points, and what it lends for the tables.
@@ -139,13 +141,14 @@ fn question(
             let places = [some, all.wrapping_sub(1), some, all, some, any];
             vec![places[turn % places.len()].into()]
         }
+        701 => outlines::question(r, scene, turn),
         _ => vec![],
     }
 }
 
 /// Sites and their questions, by rising number.
 fn built() -> String {
-    let r = &mut SplitMix64::new(9_601);
+    let (r, views) = (&mut SplitMix64::new(9_601), &mut SplitMix64::new(9_701));
     let held = &mut Held::new();
     let mut text = String::new();
     for (i, (given, scene)) in small_sites(r, held).iter().enumerate() {
@@ -156,6 +159,7 @@ fn built() -> String {
         ]);
         let gridded = Gridded::of_scene(scene);
         for (number, times) in QUESTIONS {
+            let r = if number == 701 { &mut *views } else { &mut *r };
             for k in 0..times {
                 let asked = question(r, held, scene, &gridded, number, times * i + k);
                 let answer = rust_answer(scene, number, &asked);
@@ -163,10 +167,20 @@ fn built() -> String {
             }
         }
     }
-    text
+    text + &carried()
 }
 
-/// Inputs that are refused, each with a question after it: there is no sound site then.
+/// A site with one outline, which shows a fault that we carry.
+fn carried() -> String {
+    let (plan, asked) = outlines::carried();
+    let (given, scene) = (Given::new(&plan), plan.scene());
+    assert!(given.verdict(ROOM) == 0, "a site of ours");
+    let site = told(0, &given::of_scene(&scene));
+    let answer = rust_answer(&scene, 701, &asked);
+    line(&[&[601], &given_words(&given)[..], &site]) + &line(&[&[701], &asked, &answer])
+}
+
+/// Inputs that are refused, each with questions after it: there is no sound site then.
 fn refused() -> String {
     let square = [1.0, 1.0, 2.0, 1.0, 2.0, 2.0, 1.0, 2.0];
     let given = |size, points: &[f64], lens: &[u32]| Given {
@@ -198,7 +212,8 @@ fn refused() -> String {
         assert!(status != 0, "this is a site: {}", given.show());
         let blank = given::refused(ROOM);
         let build = line(&[&[601], &given_words(given)[..], &told(status, &blank)]);
-        build + &line(&[&[608], &[6; 4], &[0; 8]])
+        let outline = line(&[&[701], &outlines::carried().1, &outlines::refused(6)]);
+        build + &line(&[&[608], &[6; 4], &[0; 8]]) + &outline
     };
     all.iter().map(lines).collect()
 }
@@ -239,6 +254,7 @@ fn length(number: u64, words: &[u64]) -> Option<usize> {
         604 => Some(5),
         606 | 607 => Some(1),
         608 => Some(0),
+        701 => Some(outlines::ARGUMENTS),
         _ => None,
     }
 }
@@ -370,6 +386,7 @@ fn rust_answer(scene: &Scene, number: u64, words: &[u64]) -> Words {
             let p = scene.polygon(id);
             told_polygon(0, [p.first, p.len], four(p.aabb))
         }
+        701 => outlines::rust_answer(scene, words),
         _ => {
             let (cols, rows) = scene.grid().dims();
             let size = [scene.width(), scene.height()];
@@ -438,6 +455,7 @@ fn our_answer(site: &Lent, number: u64, words: &[u64]) -> Words {
             let (status, place, b) = site.polygon(words[0] as u32);
             told_polygon(status, place, b)
         }
+        701 => outlines::our_answer(site, words),
         _ => {
             let ((a, four), (b, width)) = (site.bounds(), site.width());
             let ((c, height), (d, dims)) = (site.height(), site.dims());

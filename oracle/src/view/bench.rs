@@ -8,6 +8,7 @@ use crate::util::rng::SplitMix64;
 use crate::util::timing::{Bench, Limit};
 use plain::{Scene, SceneConfig, Vec2, ViewCone, VisibilityOptions, compute_visibility};
 use std::cell::RefCell;
+use std::f64::consts::FRAC_PI_2;
 
 const SIZES: [usize; 4] = [100, 500, 2_000, 4_096];
 const SIDE: f64 = 2_000.0;
@@ -43,7 +44,7 @@ pub fn bench(table: &mut Bench) {
             "a site of ours"
         );
         for range in [100.0, 300.0, 1_000.0] {
-            for (what, fov) in [("full", 7.0), ("90 degrees", 1.5707963267948966)] {
+            for (what, fov) in [("full", 7.0), ("90 degrees", FRAC_PI_2)] {
                 let what = format!("{polygons} polygons, range {range}, {what}");
                 views(table, r, &scene, &site, range, fov, &what);
             }

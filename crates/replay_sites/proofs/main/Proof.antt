@@ -7,7 +7,7 @@ use Rattle.replay_sites.proofs.main.Tie as tie
 
 abbrev Inv-loop : tie.InvT-loop
 Inv-loop chunk₀ words₀ results₀ at₀ left₀ chunk words results at left =
-    (16384 ≡ length chunk) × (2048 ≡ length words) × (1280 ≡ length results)
+    (16384 ≡ length chunk) × (2048 ≡ length words) × (1536 ≡ length results)
 
 abbrev μ-loop : tie.MeasureT-loop
 μ-loop chunk₀ words₀ results₀ at₀ left₀ chunk words results at left =
