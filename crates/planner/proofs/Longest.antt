@@ -1,0 +1,42 @@
+-- HOW LONG AN ANSWER IS AT MOST: what is seen, in the rooms that the program lends, and a refusal of any number. `answer` promises the same of every text.
+-- Assumes nothing.
+use mathlib.Core.Path.{_≡_, refl, ap}
+use mathlib.Core.Bool.{Bool, true, false, cond}
+use mathlib.Core.List.{List, [], _∷_}
+use Prim.Native.Nat.{ℕ, zero, suc, _+_, _*_, _%_, _^_, _≤_}
+use native.Mathlib.Omega.{arith}
+use lib.Dec.{ltb}
+use lib.ListN.{length, take, length-append, length-take}
+use lib.Ieee.{Float}
+use Rattle.wkt_print.specs.Decimal.{fixed, widthFrom, width, wholeText}
+use Rattle.wkt_print.specs.Lines.{pointsOf, polygonText, refusedText}
+use Rattle.planner.specs.Answer.{places, linesOf, seenText, longest}
+use Rattle.planner.proofs.Lines.{outline-length, lines-room}
+
+-- ---- a refusal
+digits-many : (k n : ℕ) → length (fixed k n) ≡ k
+digits-many zero n = refl
+digits-many (suc k) n = ap suc (digits-many k (n % 10 ^ k))
+
+either : (b : Bool) (x y m : ℕ) → x ≤ m → y ≤ m → cond b x y ≤ m
+either true x y m h g = h
+either false x y m h g = g
+
+width-few : (f w n : ℕ) → widthFrom f w n ≤ w + f
+width-few zero w n = omega arith
+width-few (suc f) w n = either (ltb n (10 ^ w)) w (widthFrom f (suc w) n) (w + suc f) (omega arith) (let h = width-few f (suc w) n in omega arith)
+
+pub refused-length : (n : ℕ) → length (refusedText n) ≤ longest
+refused-length n = omega (arith, digits-many (width n) n, width-few 10 1 n, length-append (wholeText n) (10 ∷ []))
+
+-- ---- what is seen
+take-few : {A : Type 0} (n m : ℕ) (l : List A) → length l ≤ m → length (take n l) ≤ m
+take-few n m l h = simp length-take (omega arith)
+
+pub seen-length : (n m : ℕ) (points : List Float) (polygons : List ℕ) (outline : List Float) (visible : List ℕ) → length points ≤ 1024 → length outline ≤ 4096 → length visible ≤ 64
+    → length (seenText n m points polygons outline visible) ≤ longest
+unfolding seenText
+seen-length n m points polygons outline visible p o v =
+    let a = outline-length (take (2 * n) outline) (take-few (2 * n) 4096 outline o) in
+    let b = lines-room points polygons p (take m visible) (take-few m 64 visible v) in
+    omega (arith, a, b, length-append (polygonText places (pointsOf (take (2 * n) outline))) (linesOf points polygons (take m visible)))

@@ -1,0 +1,149 @@
+-- Each way through the answer: what is printed on it is the text that specs/Answer.antt gives.
+-- Assumes nothing.
+use mathlib.Core.Path.{_≡_, sym, ap, _∙_}
+use mathlib.Core.List.{List}
+use Prim.Native.Nat.{ℕ, _+_, _*_, _≤_, min}
+use native.Mathlib.Omega.{arith}
+use lib.ListN.{length, take}
+use lib.Seq.{take-append-seam}
+use lib.Ieee.{Float}
+use Rattle.num.specs.Ops.{zeroF}
+use Rattle.lists.specs.Parts.{part, padded}
+use Rattle.lists.proofs.Parts.{part-first, part-held}
+use Rattle.geom.specs.Vec.{vec}
+use Rattle.site.specs.declared.Site.{Site}
+use Rattle.site.specs.Tables.{Tables}
+use Rattle.build.specs.declared.Made.{Made}
+use Rattle.build.specs.declared.Made.the-variants as made
+use Rattle.build.specs.Outcome as build
+use Rattle.cone.specs.declared.ViewCone.{ViewCone}
+use Rattle.cone.specs.Cone.{fullOf}
+use Rattle.room.specs.declared.Rooms.{Rooms}
+use Rattle.visibility.specs.declared.Visibility.{Visibility}
+use Rattle.visibility.specs.declared.Shown.{Shown}
+use Rattle.visibility.specs.declared.Visibility.the-variants as visibility
+use Rattle.visibility.specs.Drawing.{tenth}
+use Rattle.visibility.specs.Outcome.{Lent, Outcome, out, outcome}
+use Rattle.wkt.specs.declared.Input.{Input}
+use Rattle.wkt.specs.declared.Input.the-variants as input
+use Rattle.wkt.specs.Parse.{Parse}
+use Rattle.wkt.specs.Grammar.{Text}
+use Rattle.wkt.specs.Cursor.{polygonsIn, pointsIn}
+use Rattle.wkt.specs.Answer.{textIn, inputOf, ringsOf, allCoords, lengths, total, Says}
+use Rattle.wkt.proofs.Stored.{length-allCoords, length-lengths, counts, limited, all-stored}
+use Rattle.wkt_print.specs.Decimal.{Printed}
+use Rattle.wkt_print.specs.Lines.{pointsOf, polygonText, refusedText}
+use Rattle.wkt_print.proofs.Printing.{say, then}
+use Rattle.planner.specs.Rooms.{rooms, siteRoom, workRoom}
+use Rattle.planner.specs.Answer.{places, linesOf, seenText, shownBy, outlineOf, shownText, builtBy, siteOf, plannedText, answerBy, answerOf, longest, Told}
+use Rattle.planner.proofs.Longest.{refused-length, seen-length}
+
+-- ---- printed from the start
+pub from-zero : (r n : ℕ) → r ≡ 0 + n → r ≡ n
+from-zero r n h = omega arith
+
+told : {l l' : List ℕ} {r : ℕ} (t t' : List ℕ) → t ≡ t' → length t ≤ longest → Printed l 0 t l' r → Told l t' l' r
+told t t' e h p =
+    let x = p .next in
+    record { printed = say e p; fits = omega arith }
+
+pub tell : {l l' t t' : List ℕ} {r : ℕ} → t ≡ t' → Told l t l' r → Told l t' l' r
+tell e p = record { printed = say e (p .printed); fits = p .fits }
+
+-- ---- fronts of slices
+module _ {A : Type 0} where
+  pub front : (n e : ℕ) (l : List A) → e ≡ min n (length l) → part 0 e l ≡ take n l
+  front n e l h =
+      let z : 0 ≡ min 0 (length l) = omega arith in
+      part-held l 0 n 0 e z h ∙ part-first n l
+
+  pub front-padded : (z : A) (n : ℕ) (l : List A) (e : ℕ) → e ≡ length l → part 0 e (padded z n l) ≡ l
+  front-padded z n l e h = part-first e (padded z n l) ∙ ap (λ (i : ℕ). take i (padded z n l)) h ∙ take-append-seam l _
+
+-- ---- the outline and the polygons seen
+pub seen-way : (n m : ℕ) (points : List Float) (polygons : List ℕ) (outline : List Float) (visible : List ℕ) (e k : ℕ) {l l1 l2 : List ℕ} {at r : ℕ}
+    → e ≡ min (2 * n) (length outline) → k ≡ min m (length visible)
+    → Printed l 0 (polygonText places (pointsOf (part 0 e outline))) l1 at → Printed l1 at (linesOf points polygons (part 0 k visible)) l2 r
+    → Printed l 0 (seenText n m points polygons outline visible) l2 r
+unfolding seenText
+seen-way n m points polygons outline visible e k he hk p q =
+    then
+    (say (ap (λ (s : List Float). polygonText places (pointsOf s)) (front (2 * n) e outline he)) p)
+    (say (ap (λ (s : List ℕ). linesOf points polygons s) (front m k visible hk)) q)
+
+-- ---- the call of an outline
+module _ (site : Site) (t : Tables) (x y range : Float) (c : ViewCone) (k : Rooms) (l : Lent) (hc : c ≡ fullOf (vec x y) range) (hk : k ≡ rooms) (hl : l ≡ workRoom) where
+  outline-is : outcome site t c tenth k l ≡ outlineOf site t x y range
+  unfolding outlineOf
+  outline-is = ap (λ (d : ViewCone). outcome site t d tenth k l) hc ∙ ap (λ (j : Rooms). outcome site t (fullOf (vec x y) range) tenth j l) hk ∙ ap (λ (j : Lent). outcome site t (fullOf (vec x y) range) tenth rooms j) hl
+
+  shown-way : (a b : Visibility) (left : Lent) → out a left ≡ outcome site t c tenth k l → a ≡ b
+      → shownBy b (t .points) (t .polygons) (left .outline) (left .visible) ≡ shownText site t x y range
+  unfolding shownText
+  shown-way a b left p h =
+      ap (λ (d : Visibility). shownBy d (t .points) (t .polygons) (left .outline) (left .visible)) (sym h)
+      ∙ ap (λ (o : Outcome). shownBy (o .answer) (t .points) (t .polygons) (o .left .outline) (o .left .visible)) (p ∙ outline-is)
+
+  pub view-seen : (a : Visibility) (s : Shown) (left : Lent) {o o' : List ℕ} {r : ℕ} → out a left ≡ outcome site t c tenth k l → a ≡ visibility.Seen s
+      → length (t .points) ≤ 1024 → length (left .outline) ≤ 4096 → length (left .visible) ≤ 64
+      → Printed o 0 (seenText (s .points) (s .visible) (t .points) (t .polygons) (left .outline) (left .visible)) o' r → Told o (shownText site t x y range) o' r
+  view-seen a s left p h hp ho hv q =
+      told (seenText (s .points) (s .visible) (t .points) (t .polygons) (left .outline) (left .visible)) (shownText site t x y range) (shown-way a (visibility.Seen s) left p h)
+      (seen-length (s .points) (s .visible) (t .points) (t .polygons) (left .outline) (left .visible) hp ho hv) q
+
+  pub view-refused : (a : Visibility) (n : ℕ) (left : Lent) {o o' : List ℕ} {r : ℕ} → out a left ≡ outcome site t c tenth k l → a ≡ visibility.Refused n
+      → Printed o 0 (refusedText n) o' r → Told o (shownText site t x y range) o' r
+  view-refused a n left p h q = told (refusedText n) (shownText site t x y range) (shown-way a (visibility.Refused n) left p h) (refused-length n) q
+
+-- ---- the call of building
+module _ (x y range : Float) (given : List Float) (lens : List ℕ) (l : Tables) (hl : l ≡ siteRoom) where
+  site-is : build.outcome zeroF zeroF given lens l ≡ siteOf given lens
+  unfolding siteOf
+  site-is = ap (λ (j : Tables). build.outcome zeroF zeroF given lens j) hl
+
+  pub built-way : (a b : Made) (left : Tables) → build.Does (build.outcome zeroF zeroF given lens l) a left → a ≡ b → builtBy b left x y range ≡ plannedText x y range given lens
+  unfolding plannedText
+  built-way a b left d h =
+      ap (λ (m : Made). builtBy m left x y range) (sym h ∙ d .says)
+      ∙ ap (λ (j : Tables). builtBy (build.outcome zeroF zeroF given lens l .answer) j x y range) (d .leaves)
+      ∙ ap (λ (o : build.Outcome). builtBy (o .answer) (o .left) x y range) site-is
+
+  pub plan-refused : (a : Made) (n : ℕ) (left : Tables) {o o' : List ℕ} {r : ℕ} → build.Does (build.outcome zeroF zeroF given lens l) a left → a ≡ made.Refused n
+      → Printed o 0 (refusedText n) o' r → Told o (plannedText x y range given lens) o' r
+  plan-refused a n left d h q = told (refusedText n) (plannedText x y range given lens) (built-way a (made.Refused n) left d h) (refused-length n) q
+
+-- ---- the text
+pub read-counts : (t : Parse Text) (x y m : Float) (p n : ℕ) → inputOf t ≡ input.Read x y m p n → (p ≡ length (ringsOf t)) × (n ≡ total (ringsOf t))
+read-counts t x y m p n e = (sym (ap polygonsIn e) ∙ counts t .0, sym (ap pointsIn e) ∙ counts t .1)
+
+module _ (text : List ℕ) (p l : ℕ) (a : Input) (pts : List Float) (lens : List ℕ) (s : Says text p l a pts lens) where
+  refused-way : (n : ℕ) → a ≡ input.Refused n → refusedText n ≡ answerOf text
+  unfolding answerOf
+  refused-way n h = ap (λ (i : Input). answerBy i (ringsOf (textIn text))) (sym h ∙ s .answer)
+
+  pub answer-refused : (n : ℕ) {o o' : List ℕ} {r : ℕ} → a ≡ input.Refused n → Printed o 0 (refusedText n) o' r → Told o (answerOf text) o' r
+  answer-refused n h q = told (refusedText n) (answerOf text) (refused-way n h) (refused-length n) q
+
+  module _ (x y range : Float) (polygons points : ℕ) (h : a ≡ input.Read x y range polygons points) where
+    input-is : inputOf (textIn text) ≡ input.Read x y range polygons points
+    input-is = sym (s .answer) ∙ h
+
+    pub points-few : points ≤ 512
+    points-few = let e = read-counts (textIn text) x y range polygons points input-is .1 in let f = limited (textIn text) .points in omega arith
+
+    pub polygons-few : polygons ≤ 64
+    polygons-few = let e = read-counts (textIn text) x y range polygons points input-is .0 in let f = limited (textIn text) .polygons in omega arith
+
+    pub read-way : 1024 ≤ p → 64 ≤ l → plannedText x y range (part 0 (2 * points) pts) (part 0 polygons lens) ≡ answerOf text
+    unfolding answerOf
+    read-way hp hl =
+        let rs = ringsOf (textIn text) in
+        let c = read-counts (textIn text) x y range polygons points input-is in
+        let st = all-stored text p l a pts lens hp hl s in
+        let e : 2 * points ≡ length (allCoords rs) = let f = c .1 in omega (arith, length-allCoords rs) in
+        let g : polygons ≡ length (lengths rs) = c .0 ∙ sym (length-lengths rs) in
+        let u : part 0 (2 * points) pts ≡ allCoords rs = ap (part 0 (2 * points)) (st .0) ∙ front-padded zeroF p (allCoords rs) (2 * points) e in
+        let v : part 0 polygons lens ≡ lengths rs = ap (part 0 polygons) (st .1) ∙ front-padded {A = ℕ} 0 l (lengths rs) polygons g in
+        ap (λ (q : List Float). plannedText x y range q (part 0 polygons lens)) u
+        ∙ ap (λ (q : List ℕ). plannedText x y range (allCoords rs) q) v
+        ∙ ap (λ (i : Input). answerBy i rs) (sym input-is)
