@@ -1,5 +1,5 @@
-//! The proved functions over sites, as crate `exports_scene` hands them to C
-//! (crates/exports_scene/src/lib.rt), each behind a safe function.
+//! The proved functions over sites, as the crates `exports_scene`, `exports_view` and `exports_text` hand
+//! them to C (crates/exports_scene/src/lib.rt and so on), each behind a safe function.
 //!
 //! Nothing checks these declarations against the Rattle source: keep the two side by side. None of the
 //! functions has a `requires`, so every content of every slice is allowed.
@@ -35,8 +35,9 @@ pub struct Rooms {
     pub items: usize,
 }
 
+/// Functions of a site, its head and tables in front, by what they return.
 macro_rules! with_site {
-    ($(fn $name:ident($($arg:ident: $t:ty),*);)*) => {
+    ($answer:ty; $(fn $name:ident($($arg:ident: $t:ty),*);)*) => {
         unsafe extern "C" {
             $(fn $name(
                 head: &[f64; 6], counts: &[u32; 5],
@@ -47,12 +48,12 @@ macro_rules! with_site {
                 starts: *const u32, starts_len: usize,
                 items: *const u32, items_len: usize,
                 $($arg: $t),*
-            ) -> u32;)*
+            ) -> $answer;)*
         }
     };
 }
 
-with_site! {
+with_site! { u32;
     fn bf_scene_is_sound();
     fn bf_scene_polygons_near(b: &[f64; 4], marks: *mut u32, marks_len: usize, epoch: &mut u32,
         ids: *mut u32, ids_len: usize, tally: &mut [u64; 2]);
@@ -91,9 +92,13 @@ unsafe extern "C" {
         i: usize,
     ) -> f64;
 }
-with_site! {
+with_site! { u32;
     fn bf_inner_polygon_at(x: f64, y: f64, found: &mut [u32; 2]);
     fn bf_inner_cast_ray(ox: f64, oy: f64, dx: f64, dy: f64, length: f64, t: &mut f64, found: &mut [u64; 3]);
+}
+with_site! { u64;
+    fn bf_inner_held(asked: *const f64, asked_len: usize);
+    fn bf_inner_hits(asked: *const f64, asked_len: usize);
 }
 
 /// A view: the post, its range, direction and opening angle.
@@ -413,6 +418,16 @@ impl Lent {
         (t, found)
     }
 
+    /// How many of the points, x and y by turns, lie in a polygon, in one call and without the tests.
+    pub fn inner_held(&self, asked: &[f64]) -> u64 {
+        ask!(bf_inner_held, self, asked.as_ptr(), asked.len())
+    }
+
+    /// How many of the rays hit: five numbers each, the origin, the direction and the length.
+    pub fn inner_hits(&self, asked: &[f64]) -> u64 {
+        ask!(bf_inner_hits, self, asked.as_ptr(), asked.len())
+    }
+
     pub fn edge(&self, edge: u32) -> (u32, [f64; 4]) {
         let mut ends = [FLOAT; 4];
         (ask!(bf_scene_edge, self, edge, &mut ends), ends)
@@ -541,3 +556,15 @@ type Draw = unsafe extern "C" fn(
     &[f64; 6], &[u32; 5], *const f64, usize, *const f64, usize, *const u32, usize, *const u32, usize, *const u32, usize, *const u32, usize,
     &[f64; 5], f64, &[u32; 9], *mut u32, usize, &mut u32, *mut f64, usize, *mut u32, usize, *mut f64, usize, *mut u32, usize, &mut [u64; 9],
 ) -> u32;
+
+#[link(name = "exports_text", kind = "static")]
+unsafe extern "C" {
+    fn bf_answer(text: *const u8, text_len: usize, out: *mut u8, out_len: usize) -> usize;
+}
+
+/// The text program's answer: how long it is. As much of it as there is room for is written.
+pub fn answer(text: &[u8], out: &mut [u8]) -> usize {
+    // SAFETY: pointers and lengths are those of slices that outlive the call, and the function has
+    // no `requires`.
+    unsafe { bf_answer(text.as_ptr(), text.len(), out.as_mut_ptr(), out.len()) }
+}

@@ -3,6 +3,7 @@
 //!     compare [module..]   every module, or those named; exit status 1 if a comparison fails
 //!     bench [module..]     times, which decide nothing
 //!     sample FILE FILE     writes the samples for crates `replay` and `replay_sites`, and reads them back
+//!     texts FOLDER         writes texts and their answers, for a reader of Well-Known Text that is not ours
 //!
 //! A further crate is compared by a module of its own here, with an entry in a list below.
 
@@ -26,6 +27,8 @@ mod sample;
 mod scene;
 #[cfg(published)]
 mod sites;
+#[cfg(published)]
+mod text;
 mod util;
 #[cfg(published)]
 mod view;
@@ -86,6 +89,11 @@ const WITH_PUBLISHED: &[Module] = &[
         bench: view::bench,
     },
     Module {
+        name: "text",
+        compare: text::compare,
+        bench: |_| (),
+    },
+    Module {
         name: "published",
         compare: published::compare,
         bench: |_| (),
@@ -94,15 +102,17 @@ const WITH_PUBLISHED: &[Module] = &[
 #[cfg(not(published))]
 const WITH_PUBLISHED: &[Module] = &[];
 
-const USAGE: &str = "usage: compare|bench [module..], or sample FILE FILE";
+const USAGE: &str = "usage: compare|bench [module..], or sample FILE FILE, or texts FOLDER";
 
 fn main() -> ExitCode {
     let words: Vec<String> = std::env::args().skip(1).collect();
     let Some((command, names)) = words.split_first() else {
         return refuse(USAGE);
     };
-    if command == "sample" {
-        return sample(names);
+    match command.as_str() {
+        "sample" => return sample(names),
+        "texts" => return texts(names),
+        _ => (),
     }
     let all: Vec<&Module> = WITH_STD.iter().chain(WITH_PUBLISHED).collect();
     if let Some(name) = names.iter().find(|n| all.iter().all(|m| m.name != **n)) {
@@ -153,18 +163,40 @@ fn sample(words: &[String]) -> ExitCode {
         return refuse(USAGE);
     };
     let both = sample::write(calls).and_then(|a| Ok(scene::lines::write(sites)? && a));
-    match both {
+    written("sample", both)
+}
+
+#[cfg(published)]
+fn texts(words: &[String]) -> ExitCode {
+    let [folder] = words else {
+        return refuse(USAGE);
+    };
+    written("texts", text::write(folder).map_err(|e| e.to_string()))
+}
+
+#[cfg(published)]
+fn written(command: &str, done: Result<bool, String>) -> ExitCode {
+    match done {
         Ok(true) => ExitCode::SUCCESS,
         Ok(false) => ExitCode::FAILURE,
         Err(why) => {
-            eprintln!("sample: {why}");
+            eprintln!("{command}: {why}");
             ExitCode::FAILURE
         }
     }
 }
+
 #[cfg(not(published))]
 fn sample(_: &[String]) -> ExitCode {
-    eprintln!("sample: the published Rust was not at hand");
+    not_at_hand("sample")
+}
+#[cfg(not(published))]
+fn texts(_: &[String]) -> ExitCode {
+    not_at_hand("texts")
+}
+#[cfg(not(published))]
+fn not_at_hand(command: &str) -> ExitCode {
+    eprintln!("{command}: the published Rust was not at hand");
     ExitCode::FAILURE
 }
 
@@ -179,8 +211,9 @@ fn bench(modules: &[&Module]) -> ExitCode {
         "Ours is called through the C interface and not inlined. Rust's stands behind one such"
     );
     println!(
-        "call too, but for the rows that say that it is inlined. A limit is for either ratio.\n"
+        "call too, but for the rows that say that it is inlined. Rows \"in one call\" ask many"
     );
+    println!("questions by one call of ours. A limit is for either ratio.\n");
     let mut table = Bench::new();
     for module in modules {
         (module.bench)(&mut table);

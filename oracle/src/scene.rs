@@ -120,8 +120,12 @@ fn loaded(x: f64) -> f64 {
 
 const MILLION: f64 = 1e6;
 
-fn is_coordinate(x: f64) -> bool {
+pub fn is_coordinate(x: f64) -> bool {
     x.is_finite() && x.abs() <= MILLION
+}
+
+fn in_domain(coordinates: &[f64]) -> bool {
+    coordinates.iter().all(|&x| is_coordinate(x))
 }
 
 // ---- both sides
@@ -139,11 +143,21 @@ struct Held {
     items_at: Tally,
     polygon_at: Tally,
     cast_ray: Tally,
+    many: Tally,
     edges: Tally,
     polygons: Tally,
     heads: Tally,
     stamps: Tally,
     seen: Seen,
+}
+
+/// A site's points and rays inside the domain, and how many the Rust finds in a polygon and hitting.
+#[derive(Default)]
+struct Many {
+    points: Vec<f64>,
+    rays: Vec<f64>,
+    held: u64,
+    hits: u64,
 }
 
 /// How much the inputs reach.
@@ -183,6 +197,10 @@ impl Held {
             items_at: Tally::new(["items_at, items_at_number", "items_at, or 1"]),
             polygon_at: Tally::new(["polygon_at", "polygon_at, or 1"]),
             cast_ray: Tally::new(["cast_ray", "cast_ray, cells entered, or 1"]),
+            many: Tally::new([
+                "held, hits: many in one call, no test",
+                "polygon_at and cast_ray, counted",
+            ]),
             edges: Tally::new(["edge, edge_end, edge_owner", "the same, or 1"]),
             polygons: Tally::new(["polygon, polygon_vertices", "the same, or 1"]),
             heads: Tally::new(["bounds, width, height, dims", "the same"]),
@@ -211,14 +229,24 @@ impl Held {
         let gridded = Gridded::of_scene(&scene);
         self.heads(&clean, &scene, &site);
         self.queries(r, &clean, &scene, &gridded, &site);
+        let mut many = Many::default();
         for kind in 0..questions::POINTS + 6 {
             let p = self.point(r, &scene, &gridded, kind);
-            self.points(&clean, &scene, &site, p);
+            many.held += u64::from(self.points(&clean, &scene, &site, p));
+            if in_domain(&[p.0, p.1]) {
+                many.points.extend([loaded(p.0), loaded(p.1)]);
+            }
         }
         for kind in 0..questions::RAYS + 4 {
             let ray = self.ray(r, &scene, &gridded, kind);
-            self.rays(&clean, &scene, &site, ray);
+            many.hits += u64::from(self.rays(&clean, &scene, &site, ray));
+            let (o, d) = (ray.origin, ray.direction);
+            if in_domain(&[o.0, o.1, d.0, d.1]) && !ray.length.is_nan() {
+                many.rays
+                    .extend([o.0, o.1, d.0, d.1, ray.length].map(loaded));
+            }
         }
+        self.many(&clean, &site, many);
         self.places(r, &clean, &scene, &site);
     }
 
@@ -363,7 +391,7 @@ impl Held {
                 marks.fill_with(|| r.pick(&[0, 0, 1, epoch, next, any]));
             }
             let b = questions::asked_box(r, gridded, kind);
-            if !b.iter().all(|&x| is_coordinate(x)) {
+            if !in_domain(&b) {
                 self.seen.outside += 1;
                 self.not_near(plan, site, b, &marks, epoch, 1);
                 continue;
@@ -500,9 +528,10 @@ impl Held {
         }
     }
 
-    fn points(&mut self, plan: &Plan, scene: &Scene, site: &Lent, p: Point) {
+    /// Whether the Rust finds a polygon.
+    fn points(&mut self, plan: &Plan, scene: &Scene, site: &Lent, p: Point) -> bool {
         let at = format!("point {p:?}");
-        let inside = is_coordinate(p.0) && is_coordinate(p.1);
+        let inside = in_domain(&[p.0, p.1]);
         self.seen.outside += u64::from(!inside);
         let q = vec2((loaded(p.0), loaded(p.1)));
 
@@ -544,6 +573,7 @@ impl Held {
                 floats: &[],
             },
         );
+        rust.is_some()
     }
 
     /// The grid's rays, and rays at corners and along edges, and out of the domain.
@@ -584,9 +614,10 @@ impl Held {
         }
     }
 
-    fn rays(&mut self, plan: &Plan, scene: &Scene, site: &Lent, ray: Ray) {
+    /// Whether the Rust finds a hit.
+    fn rays(&mut self, plan: &Plan, scene: &Scene, site: &Lent, ray: Ray) -> bool {
         let (o, d) = (ray.origin, ray.direction);
-        let inside = [o.0, o.1, d.0, d.1].iter().all(|&x| is_coordinate(x)) && !ray.length.is_nan();
+        let inside = in_domain(&[o.0, o.1, d.0, d.1]) && !ray.length.is_nan();
         self.seen.outside += u64::from(!inside);
         let (status, t, found) = site.cast_ray(o, d, ray.length);
         seam::reset();
@@ -620,6 +651,25 @@ impl Held {
                 words: &[],
                 floats: &[&[rust.map_or(0.0, |h| h.t)]],
             },
+        );
+        rust.is_some()
+    }
+
+    /// The site's questions inside the domain once more, many in one call and without the tests. A
+    /// number too many is no point, and four are no ray.
+    fn many(&mut self, plan: &Plan, site: &Lent, mut many: Many) {
+        many.points.push(0.5);
+        many.rays.extend([0.5; 4]);
+        let ours = [site.inner_held(&many.points), site.inner_hits(&many.rays)];
+        let told = |numbers| Told {
+            numbers,
+            words: &[],
+            floats: &[],
+        };
+        self.many.add(
+            At(plan, "many in one call"),
+            told(&ours),
+            told(&[many.held, many.hits]),
         );
     }
 
@@ -808,6 +858,7 @@ impl Held {
             self.items_at,
             self.polygon_at,
             self.cast_ray,
+            self.many,
             self.edges,
             self.polygons,
             self.heads,

@@ -18,6 +18,19 @@ use crate::util::tally::{self, Tally, Value};
 use oracle::{Scene, Stamps, Vec2, ViewCone, VisibilityOptions, compute_visibility, seam};
 use std::f64::consts::{FRAC_PI_2, FRAC_PI_4, PI, TAU};
 
+/// The work lists, in the order of their entries.
+pub const LISTS: [&str; 9] = [
+    "ids of the box query",
+    "front edges",
+    "unmerged events",
+    "kept-aside corners",
+    "samples",
+    "bucket starts",
+    "angular references",
+    "owners",
+    "corners seen at one event",
+];
+
 /// Outlines of each site.
 const VIEWS: usize = 12;
 
@@ -57,7 +70,7 @@ fn groups() -> Vec<(&'static str, usize, Make)> {
 }
 
 /// Long triangles across one small square, so that edges cross and refining has work.
-fn crossing(r: &mut SplitMix64) -> Plan {
+pub fn crossing(r: &mut SplitMix64) -> Plan {
     let n = 3 + r.below(20) as usize;
     let corner = |r: &mut SplitMix64| (r.between(0.0, 40.0), r.between(0.0, 40.0));
     let ring = |r: &mut SplitMix64| (0..3 + r.below(3)).map(|_| corner(r)).collect();
@@ -68,7 +81,7 @@ fn crossing(r: &mut SplitMix64) -> Plan {
 }
 
 /// Equal angles and equal distances, many at once.
-fn close_lattice(r: &mut SplitMix64) -> Plan {
+pub fn close_lattice(r: &mut SplitMix64) -> Plan {
     let (across, up) = (1 + r.below(8) as i64, 1 + r.below(8) as i64);
     let (step, side) = (r.pick(&[2.0, 3.0, 4.0]), r.pick(&[1.0, 2.0]));
     let square = |i: i64, j: i64| {
@@ -85,7 +98,7 @@ fn close_lattice(r: &mut SplitMix64) -> Plan {
 
 // ---- what is asked
 
-fn post(r: &mut SplitMix64, scene: &Scene, kind: u64) -> Point {
+pub fn post(r: &mut SplitMix64, scene: &Scene, kind: u64) -> Point {
     let b = scene.bounds();
     let any = (r.between(b.min.x, b.max.x), r.between(b.min.y, b.max.y));
     let vertices = scene.vertices();
@@ -166,16 +179,16 @@ fn tolerance(r: &mut SplitMix64) -> f64 {
 
 // ---- what the Rust answers
 
-struct Seen {
+pub struct Seen {
     answer: [u64; 9],
-    outline: Vec<f64>,
-    visible: Vec<u32>,
+    pub outline: Vec<f64>,
+    pub visible: Vec<u32>,
     /// The entries of each work list, at their most.
-    needs: Entries,
+    pub needs: Entries,
     stamps: Stamps,
 }
 
-fn rust(scene: &Scene, c: Cone, tolerance: f64, marks: &[u32], epoch: u32) -> Seen {
+pub fn rust(scene: &Scene, c: Cone, tolerance: f64, marks: &[u32], epoch: u32) -> Seen {
     let at = Vec2::new(c.post.0 + 0.0, c.post.1 + 0.0);
     let cone = ViewCone::sector(at, c.range + 0.0, c.direction + 0.0, c.fov + 0.0);
     let opts = VisibilityOptions {
@@ -573,18 +586,7 @@ impl Reach {
         ] {
             table.row(vec![what.to_string(), count(n)]);
         }
-        let lists = [
-            "ids of the box query",
-            "front edges",
-            "unmerged events",
-            "kept-aside corners",
-            "samples",
-            "bucket starts",
-            "angular references",
-            "owners",
-            "corners seen at one event",
-        ];
-        for (what, n) in lists.iter().zip(self.most) {
+        for (what, n) in LISTS.iter().zip(self.most) {
             table.row(vec![format!("greatest need of {what}"), count(n.into())]);
         }
         table.print();

@@ -11,7 +11,7 @@ use Rattle.num.specs.Ops.{zeroF, oneF}
 use Rattle.num.proofs.Whole.{yes}
 use Rattle.bounds.specs.Within.{Within}
 use Rattle.bounds.specs.Domain.{million, inDomain, inSize}
-use Rattle.bounds.proofs.Order.{le-value, trans}
+use Rattle.num.proofs.FloatOrder.{le-value, trans}
 use Rattle.bounds.proofs.Within.{one-pos, tests-within, within-tests}
 
 -- ---- the literals

@@ -1,4 +1,3 @@
--- The laws: the order of floats, bounds of each operation's result, and the domain's tests as bounds.
-pub mod Order
+-- The laws: bounds of each operation's result, and the domain's tests as bounds.
 pub mod Within
 pub mod Domain

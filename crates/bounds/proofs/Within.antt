@@ -4,25 +4,25 @@ use mathlib.Core.Path.{_≡_, refl, sym, ap, _∙_, subst}
 use mathlib.Core.List.{List, [], _∷_, foldl}
 use lib.ListN.{length}
 use Prim.Native.Nat.{ℕ, zero, suc, _+_, _-_, _*_, _/_, _^_, _≤_, _<_, min, zero-le}
-use native.Mathlib.Nat.{le-trans, le-of-eq, le-of-lt, lt-of-lt-of-le, lt-of-le-of-lt, not-le-of-lt, zero-lt-suc, add-mul, add-le-add, zero-mul, mul-one, one-mul, mul-comm, mul-assoc, mul-right-comm, mul-mul-mul-comm, mul-pos, mul-le-mul, mul-le-mul-left, mul-le-mul-right, mul-lt-mul-of-pos-right, div-le-of-le-mul, div-lt-iff-lt-mul, pow-succ', suc-mul, suc-add, add-suc, add-zero}
+use native.Mathlib.Nat.{le-trans, le-of-eq, lt-of-lt-of-le, not-le-of-lt, zero-lt-suc, add-mul, add-le-add, zero-mul, mul-one, one-mul, mul-comm, mul-assoc, mul-right-comm, mul-mul-mul-comm, mul-pos, mul-le-mul, mul-le-mul-left, mul-le-mul-right, div-le-of-le-mul, div-lt-iff-lt-mul, pow-succ', suc-mul, suc-add, add-suc, add-zero}
 use native.Mathlib.Omega.{arith}
 use mathlib.Core.Bool.{Bool, true, false, not, _&&_, Bool·beq, cond, true≢false}
-use lib.IntN.{ℤ, pos}
-use lib.Dec.{T, ltb, leb, eqb, leb→le, nleb→lt, eqb→eq, not-T}
+use lib.IntN.{pos}
+use lib.Dec.{T, ltb, leb, eqb, leb→le, eqb→eq, not-T}
 use lib.Pow.{pow-pos}
 use lib.Ieee.{Float, nan, inf, fin, Format, binary64, prec, emax, low, up, down, unlike, odd, units, round, neg, sum, add, sub, mul, div, lt, le, isNan, ofInt, toUnsigned}
 use lib.Ieee.Fits.{round-is, down-pos}
-use lib.Ieee.Bits.{cond-no}
 use lib.Ieee.Exact.{HasValue}
 use lib.Ieee.Order.{round-mono}
 use lib.Ieee.Back.{round-whole}
 use Rattle.num.specs.Num.{downTo, floorOf, ceilOf, minOf, maxOf}
 use Rattle.num.specs.Root.{rootDown, sqrtOf}
 use Rattle.num.proofs.Whole.{neg-round}
-use Rattle.num.proofs.RootLaws.{root-is}
+use Rattle.num.proofs.RootLaws.{root-is, le-of-squares}
 use Rattle.lists.specs.Members.{All}
 use Rattle.bounds.specs.Within.{Within, AtLeast, WithinOrNan}
-use Rattle.bounds.proofs.Order.{on-test, value-le, le-value, not-lt, trans}
+use Rattle.num.proofs.OpOrder.{div-is}
+use Rattle.num.proofs.FloatOrder.{value-le, le-value, not-lt, trans}
 
 -- ---- larger bounds, and what a bound shuts out
 pub wider : (a b : ℕ) (x : Float) → a ≤ b → Within a x → Within b x
@@ -245,11 +245,6 @@ first-pos n u c C h = not-T (eqb n 0) (λ t. not-le-of-lt C (le-trans h (le-of-e
 no-minus : (k d a : ℕ) → 0 < k * d → k * d + a ≤ 0 → ⊥
 no-minus k d a h i = omega arith
 
--- a divisor from k on is no zero
-pub div-is : (k : ℕ) (s : Bool) (m : ℕ) (e : ℤ) (n : ℕ) (d : ℤ) → 0 < k → AtLeast k (fin false n d) → div binary64 (fin s m e) (fin false n d) ≡ round binary64 (unlike s false) (m * up e * down d) (n * up d * down e)
-unfolding div
-div-is k s m e n d K i = cond-no (eqb n 0) (cond (eqb m 0) nan (inf (unlike s false))) (round binary64 (unlike s false) (m * up e * down d) (n * up d * down e)) (first-pos n (up d) (k * down d) (mul-pos K (down-pos d)) i)
-
 -- x / y for |x| ≤ a and y ≥ k is q at most, where a ≤ q * k. With k = 1 the bound stays
 pub div-within : (a k q : ℕ) (x y : Float) → a ≤ q * k → 0 < k → Held q → Within a x → AtLeast k y → Within q (div binary64 x y)
 unfolding div
@@ -265,7 +260,7 @@ div-within a k q (fin s m e) (fin false n d) l K S h i =
     le-trans (mul-le-mul-right (down d) (le-trans h (mul-le-mul-right (down e) l)))
     (le-trans (le-of-eq (mul-right-comm (q * k) (down e) (down d) ∙ ap (λ (z : ℕ). z * down e) (mul-assoc q k (down d))))
     (le-trans (mul-le-mul-right (down e) (mul-le-mul-left q i)) (le-of-eq (mul-assoc q (n * up d) (down e))))) in
-    subst (λ (z : Float). Within q z) (sym (div-is k s m e n d K i)) (round-within (unlike s false) (m * up e * down d) (n * up d * down e) q (mul-pos p (down-pos e)) S r)
+    subst (λ (z : Float). Within q z) (sym (div-is s m e n d (first-pos n (up d) (k * down d) (mul-pos K (down-pos d)) i))) (round-within (unlike s false) (m * up e * down d) (n * up d * down e) q (mul-pos p (down-pos e)) S r)
 
 some-left : (x c d : ℕ) → 0 < d → d ≤ x * c → 0 < x
 some-left zero c d D h = absurd (not-le-of-lt D (le-trans h (le-of-eq (zero-mul c))))
@@ -289,16 +284,10 @@ div-share a c q (fin s m e) (fin false n d) l v g S h i =
     (le-trans (le-of-eq (ap (λ (z : ℕ). a * down e * z) (mul-comm (n * up d) c) ∙ mul-mul-mul-comm a (down e) c (n * up d) ∙ ap (λ (z : ℕ). a * c * z) (mul-comm (down e) (n * up d))))
     (mul-le-mul-right (n * up d * down e) g)) in
     subst (λ (z : Float). Within q z)
-    (sym (cond-no (eqb n 0) (cond (eqb m 0) nan (inf (unlike s false))) (round binary64 (unlike s false) (m * up e * down d) (n * up d * down e)) (first-pos n (up d) 1 one-pos p)))
+    (sym (div-is s m e n d (first-pos n (up d) 1 one-pos p)))
     (round-within (unlike s false) (m * up e * down d) (n * up d * down e) q (mul-pos p (down-pos e)) S r)
 
 -- ---- the root: NaN below zero
-le-of-squares : (a b : ℕ) → a * a ≤ b * b → a ≤ b
-le-of-squares a b h = on-test (leb a b) (leb→le a b) (λ t. absurd (no (nleb→lt a b t)))
-  where
-    no : b < a → ⊥
-    no l = not-le-of-lt (lt-of-le-of-lt (mul-le-mul-left b (le-of-lt l)) (mul-lt-mul-of-pos-right l (lt-of-le-of-lt zero-le l))) h
-
 four : (k : ℕ) → 4 ^ k ≡ 2 ^ k * 2 ^ k
 four zero = refl
 four (suc k) = pow-succ' 4 k ∙ ap (λ (z : ℕ). 4 * z) (four k) ∙ sym (ap (λ (z : ℕ). z * z) (pow-succ' 2 k) ∙ mul-mul-mul-comm 2 (2 ^ k) 2 (2 ^ k))

@@ -1,4 +1,4 @@
-// Whole-number bounds of float results and order laws: the laws are in proofs/Order.antt, proofs/Within.antt and proofs/Domain.antt, and
+// Whole-number bounds of float results: the laws are in proofs/Within.antt and proofs/Domain.antt, and
 // speak of specs/Within.antt. Beside them the two tests of document 01's "Domain" that a site's numbers have to pass (specs/Domain.antt).
 // A comparison has no effect, so `&` joins two of them: no branch.
 ghost use mathlib.Core.Path.{_≡_};

@@ -14,7 +14,7 @@ use Rattle.geom.specs.declared.Aabb.{Aabb}
 use Rattle.geom.specs.Box.{corners, emptyBox, fromPointsOf}
 use Rattle.bounds.specs.Within.{Within}
 use Rattle.bounds.specs.Domain.{inDomain}
-use Rattle.bounds.proofs.Order.{eq-same}
+use Rattle.num.proofs.FloatOrder.{eq-same}
 use Rattle.bounds.proofs.Within.{not-nan}
 use Rattle.extent.specs.Boxes.{polygonBoxOf}
 use Rattle.extent.specs.Sound.{BoxIn}

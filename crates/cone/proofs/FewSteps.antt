@@ -14,7 +14,7 @@ use Rattle.num.specs.Pages.{clamp-nan}
 use Rattle.angle.specs.Angles.{acosOf, kPi2}
 use Rattle.geom.specs.Constants.{tau, nano, two}
 use Rattle.bounds.specs.Within.{Within, WithinOrNan}
-use Rattle.bounds.proofs.Order.{trans, clamp-between}
+use Rattle.num.proofs.FloatOrder.{trans, clamp-between}
 use Rattle.bounds.proofs.Within.{held, tests-within, or-nan, div-share, ceil-within, cast-within}
 use Rattle.cone.specs.declared.ViewCone.{ViewCone}
 use Rattle.cone.specs.Cone.{milli, isFullOf, fovClampedOf, fovOf, reachOf, arcStepOf, stepsOf}

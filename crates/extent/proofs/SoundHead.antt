@@ -27,7 +27,7 @@ use Rattle.geom.specs.Vec.{vec, origin}
 use Rattle.geom.specs.Box.{corners, cornerOf, box, emptyBox, includeOf, boxUpTo, fromPointsOf, unionOf, isEmptyOf, widthOf, heightOf}
 use Rattle.bounds.specs.Within.{Within, WithinOrNan, AtLeast}
 use Rattle.bounds.specs.Domain.{inDomain, inSize}
-use Rattle.bounds.proofs.Order.{le-left, le-right, trans, eq-same, min-le-left, max-ge-left}
+use Rattle.num.proofs.FloatOrder.{le-left, le-right, trans, eq-same, min-le-left, max-ge-left}
 use Rattle.bounds.proofs.Within.{held, held-small, one-pos, not-nan, below-infinity, wider, or-nan-wider, le-of-least, value-within, value-least, count-least, sub-within, sum-within, mul-within, div-within, sqrt-within, floor-within, min-within, max-within, max-or-nan, min-first, max-first, max-least, cast-within}
 use Rattle.bounds.proofs.Domain.{zero-is, one-is, domain-within, within-domain, size-least, size-within}
 use Rattle.grid.specs.Boxes.{boxAt}

@@ -1,2 +1,3 @@
 -- The laws under the functions of `geom`.
 mod Sizes
+mod Spanning

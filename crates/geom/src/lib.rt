@@ -3,10 +3,14 @@
 // A list of points is a slice of numbers, x and y by turns; an odd last number is not a point.
 // A comparison has no effect, so where the Rust joins comparisons by `&&`, `&` stands here: no branch.
 ghost use mathlib.Core.Path.{_≡_};
+ghost use mathlib.Core.Bool.{true};
 ghost use Prim.Native.Nat.{_<_};
+ghost use Rattle.num.specs.Ops.{zeroF, oneF};
+ghost use Rattle.num.specs.Num.{minOf, maxOf};
+ghost use Rattle.num.specs.Root.{sqrtOf};
 ghost use Rattle.geom.specs.Vec.{vec, fromAngleOf, dotOf, crossOf, lengthSqOf, lengthOf, distanceOf, distanceSqOf, angleOf, lerpOf, addOf, subOf, mulOf, negOf};
 ghost use Rattle.geom.specs.Box.{corners, cornerOf, box, emptyBox, fromPointsOf, aroundOf, includeOf, unionOf, isEmptyOf, containsOf, intersectsOf, distanceSqToOf, widthOf, heightOf};
-ghost use Rattle.geom.specs.Segment.{normalOf, isFlat, raySegmentWithin, raySegmentOf, segmentIntersectionOf, segmentsIntersectOf, clipSegmentToDiskOf, pickOf, segmentCirclePointsOf, nearestShareOf, pointSegmentDistanceOf};
+ghost use Rattle.geom.specs.Segment.{normalOf, isFlat, raySegmentWithin, raySegmentOf, segmentIntersectionOf, segmentsIntersectOf, lower, higher, clipSegmentToDiskOf, pickOf, segmentCirclePointsOf, nearestShareOf, pointSegmentDistanceOf};
 ghost use Rattle.geom.specs.Ring.{crosses, pointInPolygonOf, signedAreaOf};
 
 const TAU: f64 = 6.283185307179586;
@@ -367,6 +371,20 @@ pub enum Clip {
     Outside,
 }
 
+// By how much `spans` takes a number larger than it needs, so that rounding does not bring it back under.
+const MARGIN: f64 = 1.00000001;
+
+// Does the line run through the disk from before the segment's start to beyond its end? It answers only where the order of squares tells: then -qb is not
+// above the root of `disc`, and u, which with -qb makes up 2 * qa, is not either. So most segments that lie in the disk cost no root.
+fn spans(qa: f64, qb: f64, disc: f64) -> bool
+    ensures { λ r. ⌜ (r ≡ true → (maxOf zeroF (lower qa qb (sqrtOf disc)) ≡ zeroF) × (minOf (higher qa qb (sqrtOf disc)) oneF ≡ oneF)) ⌝ }
+{
+    let w = 2.0 * qa;
+    let nb = -qb;
+    let u = num::max(0.0, (w + qb) * MARGIN);
+    ((0.0 < w) & (0.0 < disc)) & ((nb <= 0.0) | (nb * nb < disc)) & ((u * u < disc) & (w <= nb + u))
+}
+
 pub fn clip_segment_to_disk(a: Vec2, b: Vec2, center: Vec2, radius: f64) -> Clip
     ensures { λ r. ⌜ r ≡ clipSegmentToDiskOf a b center radius ⌝ }
 {
@@ -384,6 +402,9 @@ pub fn clip_segment_to_disk(a: Vec2, b: Vec2, center: Vec2, radius: f64) -> Clip
     let disc = qb * qb - 4.0 * qa * qc;
     if disc < 0.0 {
         return Clip::Outside;
+    }
+    if spans(qa, qb, disc) {
+        return Clip::Part(0.0, 1.0);
     }
     let sq = num::sqrt(disc);
     // Of the two zeros Rust's pages let `max` give either, and the Rust's own code gives the constant: it stands first.

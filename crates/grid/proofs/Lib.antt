@@ -1,6 +1,7 @@
 -- Laws of the grid, and the theorems on the stamps and the box query.
 pub mod Ranges
 pub mod Direct
+pub mod PointCell
 pub mod Stamping
 pub mod Rows
 pub mod RowsLoop

@@ -2,12 +2,13 @@
 -- `floorOf`, `clampOf` and `toUnsigned 64` are Rust's `floor`, `clamp` and `as usize`: clamp keeps a NaN, and the cast takes it to 0.
 -- Definitions only.
 use Prim.Native.Nat.{ℕ, _+_, _-_, _<_, min}
-use mathlib.Core.Bool.{Bool, cond}
+use mathlib.Core.Bool.{Bool, cond, not, _&&_, _||_}
 use lib.IntN.{pos}
-use lib.Ieee.{Float, binary64, lt, ofInt, toUnsigned}
+use lib.Ieee.{Float, binary64, lt, le, ofInt, toUnsigned}
 use Rattle.num.specs.Ops.{_⊖_, _⊗_, _⊘_, zeroF}
 use Rattle.num.specs.Num.{floorOf, clampOf}
 use Rattle.geom.specs.declared.Aabb.{Aabb}
+use Rattle.geom.specs.declared.Vec2.{Vec2}
 use Rattle.geom.specs.Box.{isEmptyOf}
 use Rattle.grid.specs.declared.CellRange.{CellRange}
 use Rattle.grid.specs.declared.Dims.{Dims}
@@ -50,6 +51,10 @@ rangeOf g b =
     rangeBy (g .cols - 1) (g .rows - 1) (isEmptyOf b)
     (cellAt (b .min .x) (g .origin .x) (g .«inv_cell»)) (cellAt (b .min .y) (g .origin .y) (g .«inv_cell»))
     (cellAt (b .max .x) (g .origin .x) (g .«inv_cell»)) (cellAt (b .max .y) (g .origin .y) (g .«inv_cell»))
+
+-- a point whose column and row are c and r before the floor, in a grid of nc columns and nr rows: off the grid, or a NaN
+unfoldable pub isOff : ℕ → ℕ → Vec2 → Float → Float → Bool
+isOff nc nr p c r = lt c zeroF || lt r zeroF || le (countF nc) c || le (countF nr) r || not (le (p .x) (p .x) && le (p .y) (p .y))
 
 -- the range lies in the grid
 pub record InGrid (g : Grid) (r : CellRange) : Type 0 where

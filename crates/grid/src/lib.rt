@@ -9,7 +9,7 @@ ghost use lib.ListN.{length, set, replicate};
 ghost use lib.Seq.{sets};
 ghost use Rattle.num.specs.Num.{floorOf};
 ghost use Rattle.grid.specs.Boxes.{boxFrom, boxAt};
-ghost use Rattle.grid.specs.Range.{dimsOf, columnsOf, cellIndex, rangeBy, rangeOf, InGrid};
+ghost use Rattle.grid.specs.Range.{dimsOf, columnsOf, cellIndex, rangeBy, rangeOf, isOff, InGrid};
 ghost use Rattle.grid.specs.Stamps.{epochAfter, marksBegun, unseen, stamped, firsts};
 ghost use Rattle.grid.specs.Entries.{cellOf, entriesIn, Sound, RowIn, rowPart, tallyOf};
 ghost use Rattle.grid.specs.Query.{Is, outcome, outcomeBy, itemsAt};
@@ -218,17 +218,27 @@ fn least(a: usize, b: usize) -> usize
     if a < b { a } else { b }
 }
 
-// The items of the cell that holds p (their boxes may not hold it), as a part of the item list.
+// Is the point p, in the column c and the row r, off a grid of nc columns and nr rows? A NaN is nowhere.
+fn is_off(nc: u32, nr: u32, p: Vec2, c: f64, r: f64) -> bool
+    ensures { λ b. ⌜ b ≡ isOff nc nr p c r ⌝ }
+{
+    (c < 0.0) | (r < 0.0) | (c >= nc as f64) | (r >= nr as f64) | !((p.x <= p.x) & (p.y <= p.y))
+}
+
+// The items of the cell that holds p (their boxes may not hold it), as a part of the item list. The Rust asks for the range of the box from p to p;
+// it begins and ends in one cell, which is worked out once.
 pub fn items_at<'a>(g: Grid, starts: &[u32], items: &'a [u32], p: Vec2) -> &'a [u32]
     ensures { λ r. ⌜ now r ≡ itemsAt g p (now (starts .entry)) (now (items .entry)) ⌝ }
 {
-    match g.cell_range(Aabb { min: p, max: p }) {
-        Range::Nothing => &items[0..0],
-        Range::Cells(r) => {
-            let c = r.r0 as usize * g.cols as usize + r.c0 as usize;
-            cell_items(starts, items, c)
-        }
+    let nc = at_least_one(g.cols);
+    let nr = at_least_one(g.rows);
+    let x = (p.x - g.origin.x) * g.inv_cell;
+    let y = (p.y - g.origin.y) * g.inv_cell;
+    if is_off(nc, nr, p, x, y) {
+        return &items[0..0];
     }
+    let c = cell_index(y, nr) as usize * g.cols as usize + cell_index(x, nc) as usize;
+    cell_items(starts, items, c)
 }
 
 // How many they are.

@@ -1,5 +1,6 @@
--- The laws under the functions of `num`, and its theorems: SquareRoot, Remainder, TotalOrder.
+-- The laws under the functions of `num`, the order of floats and of roots, and the theorems: SquareRoot, Remainder, TotalOrder.
 pub mod Whole
+pub mod FloatOrder
 mod FloorLaws
 mod CompareLaws
 pub mod RootLaws
@@ -12,3 +13,5 @@ pub mod Ranks
 pub mod SquareRoot
 pub mod Remainder
 pub mod TotalOrder
+pub mod RootOrder
+pub mod OpOrder

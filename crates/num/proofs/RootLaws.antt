@@ -57,7 +57,7 @@ root-is n = fuel-is (size n) n (lt-of-lt-of-le (size-lt n) (four-pow (size n)))
 pub root-below : (a b : ℕ) → a * a < b * b → a < b
 root-below a b h = lt-of-not-le (λ (g : b ≤ a). not-le-of-lt h (mul-le-mul g g))
 
-suc-le : (a b : ℕ) → a < b + 1 → a ≤ b
+pub suc-le : (a b : ℕ) → a < b + 1 → a ≤ b
 suc-le a b h = omega arith
 
 pub root-unique : (n r s : ℕ) → RootOf n r → RootOf n s → r ≡ s
@@ -89,6 +89,9 @@ plus-one x =
     let a : (x + 1) * (x + 1) ≡ x * (x + 1) + (x + 1) = add-mul x 1 (x + 1) ∙ ap (λ (y : ℕ). x * (x + 1) + y) (one-mul (x + 1)) in
     let b : x * (x + 1) ≡ x * x + x = mul-add x x 1 ∙ ap (λ (y : ℕ). x * x + y) (mul-one x) in
     omega arith
+
+pub le-of-squares : (a b : ℕ) → a * a ≤ b * b → a ≤ b
+le-of-squares a b h = suc-le a b (root-below a (b + 1) (lt-of-le-of-lt h (omega (arith, plus-one b))))
 
 -- an odd root of an even number is never exact, and what is cut off shows once there are digits enough
 pub odd-more : (N h w S : ℕ) → 2 * ((2 * h + 1) * w) + 1 ≤ w * w → RootOf (2 * N) (2 * h + 1) → RootOf (2 * N * (w * w)) S → (2 * h + 1) * w < S

@@ -11,14 +11,15 @@ ghost use Rattle.outline.specs.Outline.{none, closeOf, Chosen, roomOf, t
 // The tag of a point that stays: a corner, or a point of the arc.
 pub const CORNER: u32 = 4294967295;
 
-// How far a run has come: its points, the tags of the last two, the entries of the Rust's `owners`, and the casts made by refining.
+// How far a run has come: its points, the entries of the Rust's `owners`, the casts made by refining, and the tags of the last two points. The flag
+// stands between the tags: at the end it would leave seven bytes free, which are slow to copy from turn to turn.
 pub struct Trace {
     pub points: usize,
-    pub last: u32,
-    pub prev: u32,
     pub owners: usize,
     pub refinements: usize,
+    pub last: u32,
     pub over: bool,
+    pub prev: u32,
 }
 
 // Where a point goes: nowhere, over the last one as a corner, over the last one of its edge, behind the last one, or past the room.

@@ -1,4 +1,5 @@
 -- HOW LONG AN ANSWER IS AT MOST: what is seen, in the rooms that the program lends, and a refusal of any number. `answer` promises the same of every text.
+-- The polygons seen are distinct polygons of a sound site, so that they have no more points together than the site has.
 -- Assumes nothing.
 use mathlib.Core.Path.{_≡_, refl, ap}
 use mathlib.Core.Bool.{Bool, true, false, cond}
@@ -8,10 +9,15 @@ use native.Mathlib.Omega.{arith}
 use lib.Dec.{ltb}
 use lib.ListN.{length, take, length-append, length-take}
 use lib.Ieee.{Float}
+use Rattle.lists.specs.Lists.{sumOver}
+use Rattle.site.specs.declared.Site.{Site}
+use Rattle.site.specs.Tables.{Tables, lenOf}
+use Rattle.site.proofs.Shares.{lens-most}
+use Rattle.visibility.proofs.Ids.{Distinct}
 use Rattle.wkt_print.specs.Decimal.{fixed, widthFrom, width, wholeText}
 use Rattle.wkt_print.specs.Lines.{pointsOf, polygonText, refusedText}
 use Rattle.planner.specs.Answer.{places, linesOf, seenText, longest}
-use Rattle.planner.proofs.Lines.{outline-length, lines-room}
+use Rattle.planner.proofs.Lines.{outline-length, lines-sum}
 
 -- ---- a refusal
 digits-many : (k n : ℕ) → length (fixed k n) ≡ k
@@ -33,10 +39,12 @@ refused-length n = omega (arith, digits-many (width n) n, width-few 10 1 n, leng
 take-few : {A : Type 0} (n m : ℕ) (l : List A) → length l ≤ m → length (take n l) ≤ m
 take-few n m l h = simp length-take (omega arith)
 
-pub seen-length : (n m : ℕ) (points : List Float) (polygons : List ℕ) (outline : List Float) (visible : List ℕ) → length points ≤ 1024 → length outline ≤ 4096 → length visible ≤ 64
-    → length (seenText n m points polygons outline visible) ≤ longest
+-- the m ids in front are distinct polygons of a sound site of 512 points at most
+pub seen-length : (n m : ℕ) (site : Site) (t : Tables) (outline : List Float) (visible : List ℕ) → Distinct site t (take m visible) → length (t .points) ≤ 1024 → length outline ≤ 4096 → length visible ≤ 64
+    → length (seenText n m (t .points) (t .polygons) outline visible) ≤ longest
 unfolding seenText
-seen-length n m points polygons outline visible p o v =
+seen-length n m site t outline visible d p o v =
     let a = outline-length (take (2 * n) outline) (take-few (2 * n) 4096 outline o) in
-    let b = lines-room points polygons p (take m visible) (take-few m 64 visible v) in
-    omega (arith, a, b, length-append (polygonText places (pointsOf (take (2 * n) outline))) (linesOf points polygons (take m visible)))
+    let b = lines-sum (t .points) (t .polygons) (take m visible) in
+    let e : sumOver (lenOf (t .polygons)) (take m visible) ≤ 512 = omega (arith, lens-most site t (d .sound) (take m visible) (d .once) (d .named), d .sound .points-long) in
+    omega (arith, a, b, e, take-few m 64 visible v, length-append (polygonText places (pointsOf (take (2 * n) outline))) (linesOf (t .points) (t .polygons) (take m visible)))

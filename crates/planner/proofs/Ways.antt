@@ -1,6 +1,6 @@
 -- Each way through the answer: what is printed on it is the text that specs/Answer.antt gives.
 -- Assumes nothing.
-use mathlib.Core.Path.{_≡_, sym, ap, _∙_}
+use mathlib.Core.Path.{_≡_, sym, ap, _∙_, subst}
 use mathlib.Core.List.{List}
 use Prim.Native.Nat.{ℕ, _+_, _*_, _≤_, min}
 use native.Mathlib.Omega.{arith}
@@ -24,6 +24,7 @@ use Rattle.visibility.specs.declared.Shown.{Shown}
 use Rattle.visibility.specs.declared.Visibility.the-variants as visibility
 use Rattle.visibility.specs.Drawing.{tenth}
 use Rattle.visibility.specs.Outcome.{Lent, Outcome, out, outcome}
+use Rattle.visibility.proofs.Ids.{Distinct, visible-named}
 use Rattle.wkt.specs.declared.Input.{Input}
 use Rattle.wkt.specs.declared.Input.the-variants as input
 use Rattle.wkt.specs.Parse.{Parse}
@@ -84,12 +85,18 @@ module _ (site : Site) (t : Tables) (x y range : Float) (c : ViewCone) (k : Room
       ap (λ (d : Visibility). shownBy d (t .points) (t .polygons) (left .outline) (left .visible)) (sym h)
       ∙ ap (λ (o : Outcome). shownBy (o .answer) (t .points) (t .polygons) (o .left .outline) (o .left .visible)) (p ∙ outline-is)
 
+  -- the ids seen are distinct polygons of a sound site
+  seen-named : (a : Visibility) (s : Shown) (left : Lent) → out a left ≡ outcome site t c tenth k l → a ≡ visibility.Seen s → Distinct site t (take (s .visible) (left .visible))
+  seen-named a s left p h =
+      subst (λ (o : Outcome). Distinct site t (take (s .visible) (o .left .visible))) (sym p)
+      (visible-named site t c tenth k l s (ap (λ (o : Outcome). o .answer) (sym p) ∙ h))
+
   pub view-seen : (a : Visibility) (s : Shown) (left : Lent) {o o' : List ℕ} {r : ℕ} → out a left ≡ outcome site t c tenth k l → a ≡ visibility.Seen s
       → length (t .points) ≤ 1024 → length (left .outline) ≤ 4096 → length (left .visible) ≤ 64
       → Printed o 0 (seenText (s .points) (s .visible) (t .points) (t .polygons) (left .outline) (left .visible)) o' r → Told o (shownText site t x y range) o' r
   view-seen a s left p h hp ho hv q =
       told (seenText (s .points) (s .visible) (t .points) (t .polygons) (left .outline) (left .visible)) (shownText site t x y range) (shown-way a (visibility.Seen s) left p h)
-      (seen-length (s .points) (s .visible) (t .points) (t .polygons) (left .outline) (left .visible) hp ho hv) q
+      (seen-length (s .points) (s .visible) site t (left .outline) (left .visible) (seen-named a s left p h) hp ho hv) q
 
   pub view-refused : (a : Visibility) (n : ℕ) (left : Lent) {o o' : List ℕ} {r : ℕ} → out a left ≡ outcome site t c tenth k l → a ≡ visibility.Refused n
       → Printed o 0 (refusedText n) o' r → Told o (shownText site t x y range) o' r

@@ -71,9 +71,10 @@ unfoldable pub answerOf : List ℕ → List ℕ
 answerOf text = answerBy (inputOf (textIn text)) (ringsOf (textIn text))
 
 -- ---- the promises
--- no answer is longer: a line of 2,048 points, and 64 lines of 512 points, each closed, with 29 bytes for a point and 14 for a line
+-- no answer is longer: an outline of 2,048 points, and 64 polygons of 512 points together; 29 bytes for each point and each of the 65 closing ones, and 14 for
+-- each of the 65 lines: 29 * (2048 + 512 + 65) + 14 * 65
 abbrev pub longest : ℕ
-longest = 1012459
+longest = 77035
 
 -- of the printing functions: the text is printed from the start, and no longer than that
 pub record Told (out t out' : List ℕ) (r : ℕ) : Type 0 where

@@ -25,7 +25,7 @@ use Rattle.geom.specs.Constants.{half}
 use Rattle.geom.specs.Vec.{fromAngleOf, addOf, mulOf}
 use Rattle.bounds.specs.Within.{Within}
 use Rattle.bounds.specs.Domain.{inDomain}
-use Rattle.bounds.proofs.Order.{le-value, trans}
+use Rattle.num.proofs.FloatOrder.{le-value, trans}
 use Rattle.bounds.proofs.Within.{held, one-pos, tests-within, round-within, add-within, mul-within, cast-within}
 use Rattle.bounds.proofs.Domain.{zero-is, within-domain}
 use Rattle.grid.specs.Range.{countF}

@@ -18,7 +18,7 @@ use Rattle.lists.proofs.Members.{all-at}
 use Rattle.lists.proofs.Joined.{getD-listed}
 use Rattle.lists.proofs.Sums.{sumTo-ext}
 use Rattle.bounds.specs.Domain.{million, inDomain, inSize}
-use Rattle.bounds.proofs.Order.{trans}
+use Rattle.num.proofs.FloatOrder.{trans}
 use Rattle.build.specs.Stored.{firstIn, gridOf}
 use Rattle.build.specs.Refusals.{pointsIn, tooMany, addsUp, numbersIn, allInside}
 use Rattle.site.specs.Tables.{Tables}

@@ -3,3 +3,4 @@ pub mod Accessing
 pub mod Falling
 pub mod Ways
 pub mod SoundLaws
+pub mod Shares

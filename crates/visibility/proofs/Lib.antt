@@ -1,4 +1,4 @@
--- The laws under the functions of `visibility`, and its theorems: Only, Left, Counts, Demand, and `inner-fair` of Named.
+-- The laws under the functions of `visibility`, and its theorems: Only, Left, Counts, Demand, Ids, and `inner-fair` of Named.
 mod Corners
 mod Sampling
 mod Gathers
@@ -11,3 +11,4 @@ pub mod Only
 pub mod Left
 pub mod Counts
 pub mod Demand
+pub mod Ids

@@ -1,5 +1,7 @@
 //! Timings of questions on random sites of 2000 by 2000: with the test of the tables that each call
-//! begins with, and without it, beside the Rust as published.
+//! begins with, and without it, beside the Rust as published. Without it, many questions are asked in
+//! one call, as inner functions are used, and each through a C call of its own, whose cost is then in
+//! the time.
 
 use super::given::{self, Given};
 use crate::lent::Lent;
@@ -120,10 +122,21 @@ fn polygon_at(table: &mut Bench, r: &mut SplitMix64, timed: &Timed, polygons: us
         let id: Option<u32> = called(&timed.rust, plain::Vec2::new(x, y));
         id.map_or(0, |id| u64::from(id) + 1)
     };
+    let asked = points.concat();
+    table.add_many(
+        &format!("`polygon_at` without the table test, in one call for {QUESTIONS} points, {polygons} polygons"),
+        LIMIT,
+        QUESTIONS,
+        || timed.site.inner_held(black_box(&asked)),
+        || {
+            let held = |&[x, y]: &[f64; 2]| called(&timed.rust, plain::Vec2::new(x, y)).is_some();
+            black_box(&points).iter().map(|p| u64::from(held(p))).sum()
+        },
+    );
     let inner = |[x, y]: [f64; 2]| u64::from(timed.site.inner_polygon_at((x, y))[1]);
     table.add(
-        &format!("`polygon_at` without the table test, {polygons} polygons"),
-        LIMIT,
+        &format!("`polygon_at` without the table test, through the C call, {polygons} polygons"),
+        Limit::None,
         &points,
         inner,
         rust,
@@ -152,12 +165,26 @@ fn cast_ray(table: &mut Bench, r: &mut SplitMix64, timed: &Timed, polygons: usiz
             let hit: Option<plain::RayHit> = called(&timed.rust, o, d, t);
             hit.map_or(0, |h| h.t.to_bits())
         };
+        let asked = rays.concat();
+        table.add_many(
+            &format!("`cast_ray` of {length} without the table test, in one call for {QUESTIONS} rays, {polygons} polygons"),
+            LIMIT,
+            QUESTIONS,
+            || timed.site.inner_hits(black_box(&asked)),
+            || {
+                let hit = |&[ox, oy, dx, dy, t]: &[f64; 5]| {
+                    let (o, d) = (plain::Vec2::new(ox, oy), plain::Vec2::new(dx, dy));
+                    called(&timed.rust, o, d, t).is_some()
+                };
+                black_box(&rays).iter().map(|ray| u64::from(hit(ray))).sum()
+            },
+        );
         let inner = |[ox, oy, dx, dy, t]: [f64; 5]| {
             timed.site.inner_cast_ray((ox, oy), (dx, dy), t).0.to_bits()
         };
         table.add(
-            &format!("`cast_ray` of {length} without the table test, {polygons} polygons"),
-            LIMIT,
+            &format!("`cast_ray` of {length} without the table test, through the C call, {polygons} polygons"),
+            Limit::None,
             &rays,
             inner,
             rust,

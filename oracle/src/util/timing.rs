@@ -52,10 +52,11 @@ fn latency<I: Input>(inputs: &[I], call: &impl Fn(I) -> u64) -> u64 {
         .fold(0, |last, input| call(input.waiting(last & zero)))
 }
 
-fn nanoseconds<I>(inputs: &[I], run: impl FnOnce() -> u64) -> f64 {
+/// The time of a run, for each of so many calls.
+fn nanoseconds(calls: usize, run: impl FnOnce() -> u64) -> f64 {
     let start = Instant::now();
     black_box(run());
-    start.elapsed().as_secs_f64() * 1e9 / inputs.len() as f64
+    start.elapsed().as_secs_f64() * 1e9 / calls as f64
 }
 
 /// Best times in nanoseconds per call.
@@ -73,8 +74,8 @@ impl Best {
 
     fn run<I: Input>(&mut self, inputs: &[I], call: &impl Fn(I) -> u64) {
         let inputs = black_box(inputs);
-        let t = nanoseconds(inputs, || throughput(inputs, call));
-        let l = nanoseconds(inputs, || latency(inputs, call));
+        let t = nanoseconds(inputs.len(), || throughput(inputs, call));
+        let l = nanoseconds(inputs.len(), || latency(inputs, call));
         self.throughput = self.throughput.min(t);
         self.latency = self.latency.min(l);
     }
@@ -146,7 +147,37 @@ impl Bench {
             format!("{:.2}", b.latency),
             format!("{:.2}", ratios.1),
             limit.show(),
-            limit.verdict(ratios),
+            limit.verdict(&[ratios.0, ratios.1]),
+        ]);
+    }
+
+    /// Times runs that answer so many questions each, per question. The answers do not wait for each
+    /// other, so there is no latency. Both sides must answer the same.
+    pub fn add_many(
+        &mut self,
+        what: &str,
+        limit: Limit,
+        questions: usize,
+        ours: impl Fn() -> u64,
+        rust: impl Fn() -> u64,
+    ) {
+        assert_eq!(ours(), rust(), "{what}: the same answer");
+        let (mut a, mut b) = (f64::INFINITY, f64::INFINITY);
+        for _ in 0..RUNS {
+            a = a.min(nanoseconds(questions, &ours));
+            b = b.min(nanoseconds(questions, &rust));
+        }
+        let none = || "-".to_string();
+        self.0.row(vec![
+            what.to_string(),
+            format!("{a:.2}"),
+            format!("{b:.2}"),
+            format!("{:.2}", a / b),
+            none(),
+            none(),
+            none(),
+            limit.show(),
+            limit.verdict(&[a / b]),
         ]);
     }
 
@@ -170,13 +201,13 @@ impl Limit {
         }
     }
 
-    /// For throughput, then for latency.
-    fn verdict(self, ratios: (f64, f64)) -> String {
+    /// For throughput, then for latency, if there is one.
+    fn verdict(self, ratios: &[f64]) -> String {
         let Self::Times(t) = self else {
             return "-".to_string();
         };
-        let word = |ratio| if ratio <= t { "PASS" } else { "OVER" };
-        format!("{}, {}", word(ratios.0), word(ratios.1))
+        let word = |&ratio: &f64| if ratio <= t { "PASS" } else { "OVER" };
+        ratios.iter().map(word).collect::<Vec<_>>().join(", ")
     }
 }
 

@@ -1,9 +1,9 @@
--- The order of floats of either sign: `le` is transitive and follows the exact values, a test that fails turns the other way, a number equals itself, and
--- Rust's `min` and `max` keep to it. Assumes nothing.
+-- The order of floats of either sign: `le` is transitive and follows the exact values, a test that fails turns the other way and one that holds shuts the
+-- other way out, a number equals itself, and Rust's `min` and `max` keep to it. Assumes nothing.
 use mathlib.Core.Path.{_≡_, refl, sym, subst}
 use mathlib.Core.Logic.{_⊎_, inl, inr}
 use Prim.Native.Nat.{ℕ, _+_, _*_, _≤_, _<_, zero-le}
-use native.Mathlib.Nat.{le-trans, le-of-eq, le-of-lt, add-mul, zero-mul, mul-right-comm, mul-le-mul-right, le-of-mul-le-mul-right}
+use native.Mathlib.Nat.{le-trans, le-of-eq, le-of-lt, not-le-of-lt, add-mul, zero-mul, mul-right-comm, mul-le-mul-right, le-of-mul-le-mul-right}
 use native.Mathlib.Omega.{arith}
 use mathlib.Core.Bool.{Bool, true, false, not, _&&_, _||_, cond}
 use lib.IntN.{ℤ}
@@ -20,7 +20,7 @@ Le false a true b = a + b ≤ 0
 Le true a false b = 0 ≤ a + b
 Le true a true b = b ≤ a
 
-or-split : (a b : Bool) → T (a || b) → T a ⊎ T b
+pub or-split : (a b : Bool) → T (a || b) → T a ⊎ T b
 or-split true b t = inl tt
 or-split false b t = inr t
 
@@ -76,6 +76,15 @@ not-below false a false b h = nltb→le b a h
 not-below false a true b h = swap a b (nltb→le 0 (b + a) h)
 not-below true a false b h = zero-le
 not-below true a true b h = nltb→le a b h
+
+no-sum : (a b : ℕ) → 0 < a + b → b + a ≤ 0 → ⊥
+no-sum a b h k = omega arith
+
+shut : (s : Bool) (a : ℕ) (t : Bool) (b : ℕ) → T (below s a t b) → Le t b s a → ⊥
+shut false a false b h k = not-le-of-lt (ltb→lt a b h) k
+shut false a true b h k = h
+shut true a false b h k = no-sum a b (ltb→lt 0 (a + b) h) k
+shut true a true b h k = not-le-of-lt (ltb→lt b a h) k
 
 -- ---- the order of fractions p / P ≤ q / Q
 Le-trans : (s : Bool) (a : ℕ) (t : Bool) (b : ℕ) (u : Bool) (c : ℕ) → Le s a t b → Le t b u c → Le s a u c
@@ -138,6 +147,21 @@ not-lt (fin s m e) (inf true) p q h = absurd h
 not-lt (fin s m e) (inf false) p q h = tt
 not-lt (fin s m e) (fin t n d) p q h = fin-said s m e t n d (not-below s (m * up e * down d) t (n * up d * down e) h)
 
+-- and one that holds shuts the other way out
+pub lt-not-le : (x y : Float) → T (lt x y) → T (le y x) → ⊥
+unfolding lt le
+lt-not-le nan y h k = h
+lt-not-le (inf s) nan h k = h
+lt-not-le (inf true) (inf true) h k = h
+lt-not-le (inf true) (inf false) h k = k
+lt-not-le (inf false) (inf t) h k = h
+lt-not-le (inf true) (fin t n d) h k = k
+lt-not-le (inf false) (fin t n d) h k = h
+lt-not-le (fin s m e) nan h k = h
+lt-not-le (fin s m e) (inf true) h k = h
+lt-not-le (fin s m e) (inf false) h k = k
+lt-not-le (fin s m e) (fin t n d) h k = shut s (m * up e * down d) t (n * up d * down e) h (fin-says t n d s m e k)
+
 pub lt-le : (x y : Float) → T (lt x y) → T (le x y)
 unfolding le
 lt-le x y h = or-l (lt x y) (eq x y) h
@@ -179,6 +203,9 @@ trans (fin s m e) (fin t n d) (inf true) h k = absurd k
 trans (fin s m e) (fin t n d) (inf false) h k = tt
 trans (fin s m e) (fin t n d) (fin u o g) h k =
     fin-said s m e u o g (frac-trans s (m * up e) (down e) t (n * up d) (down d) u (o * up g) (down g) (down-pos d) (fin-says s m e t n d h) (fin-says t n d u o g k))
+
+pub lt-le-trans : (x y z : Float) → T (lt x y) → T (le y z) → T (lt x z)
+lt-le-trans x y z h k = on-test (lt x z) (λ t. t) (λ t. absurd (lt-not-le x y h (trans y z x k (not-lt z x (le-right y z k) (le-left x y (lt-le x y h)) t))))
 
 -- ---- by exact values: x is ±a / c and y is ±b / d
 pub value-le : (x y : Float) (s : Bool) (a c : ℕ) (t : Bool) (b d : ℕ) → HasValue x s a c → HasValue y t b d → T (le x y) → Le s (a * d) t (b * c)

@@ -1,0 +1,294 @@
+//! Crate `planner`, the text program's whole answer (crate `exports_text`): byte for byte the answer
+//! that is worked out here from document 01's words and the published Rust, with both substitutions
+//! (`text/expected.rs`). Texts as laid out, in rooms that are just enough, longer and too short; and
+//! damaged ones, refused 9 exactly where a second reader, of another shape, says so.
+
+mod damage;
+mod expected;
+mod inputs;
+mod print;
+mod reader;
+mod write;
+
+pub use write::write;
+
+use crate::lent;
+use crate::util::rng::SplitMix64;
+use crate::util::table::{Table, count};
+use crate::util::tally::{self, Tally, Value};
+use crate::view::LISTS;
+use expected::{ENTRIES, Expected, MOST_CELLS, MOST_OUTLINE};
+use inputs::Text;
+use std::collections::HashSet;
+use std::hash::{DefaultHasher, Hasher};
+
+pub fn compare() -> bool {
+    let printer = print::held();
+    let mut held = Held::new();
+    let mut table = counts_table("inputs: texts");
+    for (i, group) in inputs::groups().iter().enumerate() {
+        let r = &mut SplitMix64::new(8_000 + i as u64);
+        let mut counts = Counts::default();
+        for _ in 0..group.texts {
+            let text = (group.make)(r);
+            let expected = expected::answer(&text);
+            counts.add(&expected);
+            held.whole(r, &text, &expected);
+        }
+        table.row(counts.row(group.what));
+        held.all.join(counts);
+    }
+    table.row(held.all.row("all"));
+    table.print();
+    held.reach.print();
+    let mut table = counts_table("inputs: damaged texts");
+    let mut all = Counts::default();
+    for (i, kind) in damage::kinds().iter().enumerate() {
+        let r = &mut SplitMix64::new(8_500 + i as u64);
+        let counts = held.damaged(r, kind);
+        table.row(counts.row(kind.what));
+        all.join(counts);
+    }
+    table.row(all.row("all"));
+    table.print();
+    tally::print(&[
+        held.sample,
+        held.exact,
+        held.longer,
+        held.short,
+        held.damaged,
+        printer,
+    ])
+}
+
+// ---- what is counted
+
+/// How many texts come to each number, 0 being an answer.
+#[derive(Default)]
+struct Counts([u64; 10]);
+
+/// The numbers that a text can come to, in the order in which they are asked.
+const NUMBERS: [usize; 6] = [9, 2, 1, 4, 5, 8];
+
+fn counts_table(what: &str) -> Table {
+    let refused = NUMBERS.map(|n| format!("refused {n}"));
+    let mut head = vec![what, "texts"];
+    head.extend(refused.iter().map(String::as_str));
+    head.push("answered");
+    Table::new(&head)
+}
+
+impl Counts {
+    fn add(&mut self, expected: &Expected) {
+        self.0[expected.number as usize] += 1;
+    }
+
+    fn join(&mut self, other: Self) {
+        self.0.iter_mut().zip(other.0).for_each(|(n, m)| *n += m);
+    }
+
+    fn row(&self, what: &str) -> Vec<String> {
+        let mut row = vec![what.to_string(), count(self.0.iter().sum())];
+        row.extend(NUMBERS.map(|n| count(self.0[n])));
+        row.push(count(self.0[0]));
+        row
+    }
+}
+
+/// The entries of what `Reach` counts.
+fn entries() -> impl Iterator<Item = u64> {
+    let work = ENTRIES.map(u64::from).into_iter();
+    let cells = std::iter::once(MOST_CELLS as u64);
+    cells.chain(work).chain([MOST_OUTLINE as u64])
+}
+
+/// What the texts reach of the entries that document 01 gives.
+#[derive(Default)]
+struct Reach {
+    distinct: u64,
+    /// For cells, each work list and the outline: the greatest need, how often all entries are needed
+    /// and enough, how often more, how often more of this one alone, and then by one.
+    lists: [[u64; 5]; 11],
+    empty: u64,
+    points: u64,
+    visible: u64,
+    halves: u64,
+    longest: u64,
+}
+
+impl Reach {
+    fn add(&mut self, expected: &Expected) {
+        self.longest = self.longest.max(expected.bytes.len() as u64);
+        let mut needs = vec![expected.cells as u64];
+        if let Some(run) = &expected.run {
+            needs.extend(run.needs.map(u64::from));
+            needs.push(run.points as u64);
+        }
+        let over = needs.iter().zip(entries()).filter(|(n, k)| *n > k).count();
+        for ((list, &n), k) in self.lists.iter_mut().zip(&needs).zip(entries()) {
+            list[0] = list[0].max(n);
+            list[1] += u64::from(n == k && expected.number == 0);
+            list[2] += u64::from(n > k);
+            list[3] += u64::from(n > k && over == 1);
+            list[4] += u64::from(n == k + 1 && over == 1);
+        }
+        if let (0, Some(run)) = (expected.number, &expected.run) {
+            self.empty += u64::from(run.points == 0);
+            self.points += run.points as u64;
+            self.visible += run.visible as u64;
+            self.halves += run.halves as u64;
+        }
+    }
+
+    fn print(&self) {
+        let mut table = Table::new(&["what the answers reach", "count"]);
+        for (what, n) in [
+            ("different texts", self.distinct),
+            ("outline points", self.points),
+            ("outlines without points", self.empty),
+            ("visible polygons", self.visible),
+            ("coordinates half-way between two decimals", self.halves),
+            ("bytes of the longest answer", self.longest),
+        ] {
+            table.row(vec![what.to_string(), count(n)]);
+        }
+        table.print();
+        let mut table = Table::new(&[
+            "texts that need",
+            "entries",
+            "at most",
+            "all of them, and are answered",
+            "more",
+            "more of these alone",
+            "one more of these alone",
+        ]);
+        let names = [&["cells"], &LISTS[..], &["outline points"]].concat();
+        for ((name, k), list) in names.iter().zip(entries()).zip(self.lists) {
+            let mut row = vec![name.to_string(), count(k)];
+            row.extend(list.map(count));
+            table.row(row);
+        }
+        table.print();
+    }
+}
+
+// ---- both sides
+
+/// A text, shown with escapes.
+#[derive(Clone, Copy)]
+struct Given<'a>(&'a [u8]);
+
+impl Value for Given<'_> {
+    fn same(self, _: Self) -> bool {
+        unreachable!("inputs are only shown")
+    }
+    fn show(self) -> String {
+        format!("\"{}\"", self.0.escape_ascii())
+    }
+}
+
+/// The length answered, and all of the lent room.
+#[derive(Clone, Copy)]
+struct Told<'a>(usize, &'a [u8]);
+
+impl Value for Told<'_> {
+    fn same(self, other: Self) -> bool {
+        self.0 == other.0 && self.1 == other.1
+    }
+    fn show(self) -> String {
+        format!("{} \"{}\"", self.0, self.1.escape_ascii())
+    }
+}
+
+/// What the room holds before a call.
+const FILL: u8 = 0xA5;
+
+fn hold(tally: &mut Tally, text: &[u8], expected: &[u8], room: usize) {
+    let mut out = vec![FILL; room];
+    let n = lent::answer(text, &mut out);
+    let mut all = expected.to_vec();
+    all.resize(room, 0);
+    tally.add(Given(text), Told(n, &out), Told(expected.len(), &all));
+}
+
+struct Held {
+    sample: Tally,
+    exact: Tally,
+    longer: Tally,
+    short: Tally,
+    damaged: Tally,
+    all: Counts,
+    reach: Reach,
+    /// Texts that were asked before, by their hash.
+    asked: HashSet<u64>,
+}
+
+fn hash(text: &[u8]) -> u64 {
+    let mut hasher = DefaultHasher::new();
+    hasher.write(text);
+    hasher.finish()
+}
+
+/// Document 01's own example.
+const SAMPLE: [&[u8]; 2] = [
+    b"POINT M (0 0 0.1)\n",
+    b"POLYGON ((-0.100 0.000, 0.000 -0.100, 0.100 0.000, 0.000 0.100, -0.100 0.000))\n",
+];
+
+impl Held {
+    fn new() -> Self {
+        let mut sample = Tally::new(["answer to document 01's example", "its words"]);
+        hold(&mut sample, SAMPLE[0], SAMPLE[1], SAMPLE[1].len());
+        let worked_out = "worked out here, by the Rust";
+        Self {
+            sample,
+            exact: Tally::new(["answer, room just enough", worked_out]),
+            longer: Tally::new(["longer room", "zeros after it"]),
+            short: Tally::new(["room too short", "what fits, the same length"]),
+            damaged: Tally::new(["answer to a damaged text", worked_out]),
+            all: Counts::default(),
+            reach: Reach::default(),
+            asked: HashSet::new(),
+        }
+    }
+
+    fn whole(&mut self, r: &mut SplitMix64, text: &[u8], expected: &Expected) {
+        self.reach.add(expected);
+        self.reach.distinct += u64::from(self.asked.insert(hash(text)));
+        let all = &expected.bytes;
+        let n = all.len();
+        hold(&mut self.exact, text, all, n);
+        hold(&mut self.longer, text, all, n + 1 + r.below(200) as usize);
+        for room in [0, 1, n / 2, n - 1] {
+            hold(&mut self.short, text, all, room);
+        }
+    }
+
+    /// A text of the pool with a damage that changes it, and not one that was asked before.
+    fn unseen(&mut self, r: &mut SplitMix64, pool: &[Text], kind: &damage::Kind) -> Text {
+        loop {
+            let whole = &pool[r.below(pool.len() as u64) as usize];
+            let mut text = whole.clone();
+            (kind.harm)(r, &mut text);
+            if text != *whole && self.asked.insert(hash(&text)) {
+                return text;
+            }
+        }
+    }
+
+    fn damaged(&mut self, r: &mut SplitMix64, kind: &damage::Kind) -> Counts {
+        let mut counts = Counts::default();
+        let mut pool = Vec::new();
+        for i in 0..kind.texts {
+            if i % 2_000 == 0 {
+                pool = damage::pool(r);
+            }
+            let text = self.unseen(r, &pool, kind);
+            let expected = expected::answer(&text);
+            counts.add(&expected);
+            let room = expected.bytes.len() + r.below(9) as usize;
+            hold(&mut self.damaged, &text, &expected.bytes, room);
+        }
+        counts
+    }
+}
