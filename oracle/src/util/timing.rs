@@ -3,13 +3,26 @@
 
 use super::table::Table;
 use std::hint::black_box;
-use std::time::Instant;
+use std::time::{Duration, Instant};
 
-/// Runs of each side. The best one counts: other work on the machine only ever adds time.
-const RUNS: usize = 101;
+/// Runs of each side: so many, and further ones until the time is over. The best one counts: other
+/// work on the machine only ever adds time.
+#[derive(Clone, Copy)]
+struct Runs {
+    fewest: usize,
+    time: Duration,
+}
+
+const RUNS: Runs = Runs {
+    fewest: 101,
+    time: Duration::ZERO,
+};
 
 /// The same where one run takes long.
-const FEW_RUNS: usize = 11;
+const FEW_RUNS: Runs = Runs {
+    fewest: 11,
+    time: Duration::from_secs(1),
+};
 
 /// Inputs per run: too many for the branch predictor to learn by heart.
 pub const INPUTS: usize = 1 << 16;
@@ -111,7 +124,7 @@ impl Bench {
         self.add_runs(RUNS, what, limit, inputs, ours, rust);
     }
 
-    /// The same with fewer runs, for calls that take long.
+    /// The same for calls that take long.
     pub fn add_few<I: Input>(
         &mut self,
         what: &str,
@@ -125,7 +138,7 @@ impl Bench {
 
     fn add_runs<I: Input>(
         &mut self,
-        runs: usize,
+        runs: Runs,
         what: &str,
         limit: Limit,
         inputs: &[I],
@@ -133,9 +146,11 @@ impl Bench {
         rust: impl Fn(I) -> u64,
     ) {
         let (mut a, mut b) = (Best::NONE, Best::NONE);
-        for _ in 0..runs {
+        let (begin, mut run) = (Instant::now(), 0);
+        while run < runs.fewest || begin.elapsed() < runs.time {
             a.run(inputs, &ours);
             b.run(inputs, &rust);
+            run += 1;
         }
         let ratios = (a.throughput / b.throughput, a.latency / b.latency);
         self.0.row(vec![
@@ -163,7 +178,7 @@ impl Bench {
     ) {
         assert_eq!(ours(), rust(), "{what}: the same answer");
         let (mut a, mut b) = (f64::INFINITY, f64::INFINITY);
-        for _ in 0..RUNS {
+        for _ in 0..RUNS.fewest {
             a = a.min(nanoseconds(questions, &ours));
             b = b.min(nanoseconds(questions, &rust));
         }
