@@ -62,6 +62,7 @@ pub fn bench(table: &mut Bench) {
         polygon_at(table, r, &timed, polygons);
         cast_ray(table, r, &timed, polygons);
         near(table, r, &timed, polygons);
+        reads(table, r, &timed, polygons);
     }
 }
 
@@ -228,4 +229,83 @@ fn near(table: &mut Bench, r: &mut SplitMix64, timed: &Timed, polygons: usize) {
         ours,
         rust,
     );
+}
+
+/// A question that reads a number or two, asked of a polygon's or edge's number, on either side.
+type Read = (
+    &'static str,
+    fn(&Lent, u32) -> u64,
+    fn(&plain::Scene, u32) -> u64,
+);
+
+const READS: [Read; 10] = [
+    (
+        "items_at_number",
+        |s, k| s.items_at_number((f64::from(k), f64::from(k))).1,
+        |s, k| {
+            s.grid()
+                .items_at(plain::Vec2::new(f64::from(k), f64::from(k)))
+                .len() as u64
+        },
+    ),
+    (
+        "edge",
+        |s, k| s.edge(k).1[0].to_bits(),
+        |s, k| s.edge(k).0.x.to_bits(),
+    ),
+    (
+        "edge_end",
+        |s, k| u64::from(s.edge_end(k).1),
+        |s, k| u64::from(s.edge_end(k)),
+    ),
+    (
+        "edge_owner",
+        |s, k| u64::from(s.edge_owner(k).1),
+        |s, k| u64::from(s.edge_owner(k)),
+    ),
+    (
+        "polygon",
+        |s, k| s.polygon(k).2[0].to_bits(),
+        |s, k| s.polygon(k).aabb.min.x.to_bits(),
+    ),
+    (
+        "polygon_vertices_number",
+        |s, k| s.polygon_vertices_number(k).1,
+        |s, k| s.polygon_vertices(k).len() as u64,
+    ),
+    (
+        "bounds",
+        |s, _| s.bounds().1[0].to_bits(),
+        |s, _| s.bounds().min.x.to_bits(),
+    ),
+    (
+        "width",
+        |s, _| s.width().1.to_bits(),
+        |s, _| s.width().to_bits(),
+    ),
+    (
+        "height",
+        |s, _| s.height().1.to_bits(),
+        |s, _| s.height().to_bits(),
+    ),
+    (
+        "dims",
+        |s, _| u64::from(s.dims().1[0]),
+        |s, _| s.grid().dims().0 as u64,
+    ),
+];
+
+/// What they take is the test of the tables, whose own row says how much.
+fn reads(table: &mut Bench, r: &mut SplitMix64, timed: &Timed, polygons: usize) {
+    let asked: Vec<[f64; 1]> = some(FEW, || [r.between(0.0, polygons as f64).floor()]);
+    for (name, ours, rust) in READS {
+        let (ours, rust) = (black_box(ours), black_box(rust));
+        table.add(
+            &format!("`{name}`, {polygons} polygons"),
+            Limit::None,
+            &asked,
+            |[k]| ours(&timed.site, k as u32),
+            |[k]| rust(&timed.rust, k as u32),
+        );
+    }
 }
