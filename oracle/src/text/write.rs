@@ -9,7 +9,8 @@ use std::fs::{File, create_dir_all};
 use std::io::{BufWriter, Result, Write};
 use std::path::Path;
 
-const TEXTS: usize = 10_000;
+/// So many texts are answered and not refused.
+const ANSWERS: u64 = 10_000;
 
 /// Writes FOLDER/given.wkt, the lines of the texts that are as laid out, and FOLDER/answers.wkt, what was
 /// answered; refusals are no geometry and are left out.
@@ -18,11 +19,12 @@ pub fn write(folder: &str) -> Result<bool> {
     create_dir_all(folder)?;
     let create = |name: &str| File::create(folder.join(name)).map(BufWriter::new);
     let (mut given, mut answers) = (create("given.wkt")?, create("answers.wkt")?);
-    let (mut bad, mut lines, mut printed, mut refused) = (0, 0, 0, 0);
+    let (mut texts, mut bad, mut lines, mut printed, mut refused) = (0, 0, 0, 0, 0);
     let groups = inputs::groups();
     let r = &mut SplitMix64::new(8_950);
-    for i in 0..TEXTS {
-        let text = (groups[i % groups.len()].make)(r);
+    while texts < ANSWERS + bad + refused {
+        let text = (groups[texts as usize % groups.len()].make)(r);
+        texts += 1;
         let mut out = vec![0; lent::answer(&text, &mut [])];
         lent::answer(&text, &mut out);
         if out == b"REFUSED 9\n" {
@@ -47,7 +49,7 @@ pub fn write(folder: &str) -> Result<bool> {
         "refused otherwise",
         "lines answered",
     ]);
-    let row = [TEXTS as u64, bad, lines, refused, printed];
+    let row = [texts, bad, lines, refused, printed];
     table.row(row.map(count).to_vec());
     table.print();
     Ok(true)
