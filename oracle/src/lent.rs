@@ -95,6 +95,16 @@ unsafe extern "C" {
 with_site! { u32;
     fn bf_inner_polygon_at(x: f64, y: f64, found: &mut [u32; 2]);
     fn bf_inner_cast_ray(ox: f64, oy: f64, dx: f64, dy: f64, length: f64, t: &mut f64, found: &mut [u64; 3]);
+    fn bf_inner_site_items_at_number(x: f64, y: f64, number: &mut u64);
+    fn bf_inner_edge(edge: u32, ends: &mut [f64; 4]);
+    fn bf_inner_edge_end(edge: u32, end: &mut u32);
+    fn bf_inner_edge_owner(edge: u32, owner: &mut u32);
+    fn bf_inner_polygon(id: u32, place: &mut [u32; 2], b: &mut [f64; 4]);
+    fn bf_inner_polygon_vertices_number(id: u32, number: &mut u64);
+    fn bf_inner_bounds(b: &mut [f64; 4]);
+    fn bf_inner_width(width: &mut f64);
+    fn bf_inner_height(height: &mut f64);
+    fn bf_inner_dims(dims: &mut [u32; 2]);
 }
 with_site! { u64;
     fn bf_inner_held(asked: *const f64, asked_len: usize);
@@ -129,7 +139,7 @@ pub fn room_for(k: Entries) -> (usize, usize) {
         seen,
     ] = k.map(|n| n as usize);
     (
-        7 * edges + 2 * events + 2 * samples,
+        7 * edges + 2 * events + 4 * samples,
         ids + 3 * edges + 7 * events + 2 * corners + 6 * samples + starts + refs + seen,
     )
 }
@@ -483,6 +493,65 @@ impl Lent {
     pub fn dims(&self) -> (u32, [u32; 2]) {
         let mut dims = [PATTERN; 2];
         (ask!(bf_scene_dims, self, &mut dims), dims)
+    }
+
+    // ---- the questions that only read, without the tests: the status is 0
+
+    pub fn inner_items_at_number(&self, (x, y): (f64, f64)) -> (u32, u64) {
+        let mut number = u64::MAX;
+        (
+            ask!(bf_inner_site_items_at_number, self, x, y, &mut number),
+            number,
+        )
+    }
+
+    pub fn inner_edge(&self, edge: u32) -> (u32, [f64; 4]) {
+        let mut ends = [FLOAT; 4];
+        (ask!(bf_inner_edge, self, edge, &mut ends), ends)
+    }
+
+    pub fn inner_edge_end(&self, edge: u32) -> (u32, u32) {
+        let mut end = PATTERN;
+        (ask!(bf_inner_edge_end, self, edge, &mut end), end)
+    }
+
+    pub fn inner_edge_owner(&self, edge: u32) -> (u32, u32) {
+        let mut owner = PATTERN;
+        (ask!(bf_inner_edge_owner, self, edge, &mut owner), owner)
+    }
+
+    pub fn inner_polygon(&self, id: u32) -> (u32, [u32; 2], [f64; 4]) {
+        let (mut place, mut b) = ([PATTERN; 2], [FLOAT; 4]);
+        let status = ask!(bf_inner_polygon, self, id, &mut place, &mut b);
+        (status, place, b)
+    }
+
+    pub fn inner_polygon_vertices_number(&self, id: u32) -> (u32, u64) {
+        let mut number = u64::MAX;
+        (
+            ask!(bf_inner_polygon_vertices_number, self, id, &mut number),
+            number,
+        )
+    }
+
+    pub fn inner_bounds(&self) -> (u32, [f64; 4]) {
+        let mut b = [FLOAT; 4];
+        (ask!(bf_inner_bounds, self, &mut b), b)
+    }
+
+    pub fn inner_width(&self) -> (u32, f64) {
+        let mut width = FLOAT;
+        (ask!(bf_inner_width, self, &mut width), width)
+    }
+
+    pub fn inner_height(&self) -> (u32, f64) {
+        let mut height = FLOAT;
+        (ask!(bf_inner_height, self, &mut height), height)
+    }
+
+    pub fn inner_dims(&self) -> (u32, [u32; 2]) {
+        let mut dims = [PATTERN; 2];
+        (ask!(bf_inner_dims, self, &mut dims), dims)
     }
 
     pub fn new_stamps(&self, marks: &mut [u32], epoch: &mut u32) -> u32 {

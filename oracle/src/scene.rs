@@ -144,6 +144,7 @@ struct Held {
     polygon_at: Tally,
     cast_ray: Tally,
     many: Tally,
+    reads: Tally,
     edges: Tally,
     polygons: Tally,
     heads: Tally,
@@ -200,6 +201,10 @@ impl Held {
             many: Tally::new([
                 "held, hits: many in one call, no test",
                 "polygon_at and cast_ray, counted",
+            ]),
+            reads: Tally::new([
+                "ten questions that only read, no test",
+                "our answers with it, in the domain",
             ]),
             edges: Tally::new(["edge, edge_end, edge_owner", "the same, or 1"]),
             polygons: Tally::new(["polygon, polygon_vertices", "the same, or 1"]),
@@ -351,6 +356,22 @@ impl Held {
                 numbers: &[0; 4],
                 words: &[&rust],
                 floats: &[&four(scene.bounds()), &[scene.width(), scene.height()]],
+            },
+        );
+        let (f, inner_b) = site.inner_bounds();
+        let ((g, inner_width), (h, inner_height)) = (site.inner_width(), site.inner_height());
+        let (i, inner_dims) = site.inner_dims();
+        self.reads.add(
+            At(plan, "head"),
+            Told {
+                numbers: &[f.into(), g.into(), h.into(), i.into()],
+                words: &[&inner_dims],
+                floats: &[&inner_b, &[inner_width, inner_height]],
+            },
+            Told {
+                numbers: &[a.into(), c.into(), e.into(), d.into()],
+                words: &[&dims],
+                floats: &[&b, &[width, height]],
             },
         );
         let (mut marks, mut epoch) = (vec![PATTERN; scene.polygons().len()], PATTERN);
@@ -557,6 +578,15 @@ impl Held {
             },
         );
 
+        if inside {
+            let (inner_status, inner_number) = site.inner_items_at_number(p);
+            self.reads.add(
+                At(plan, &at),
+                (inner_status, inner_number),
+                (status, number),
+            );
+        }
+
         let (status, found) = site.polygon_at(p);
         let rust = if inside { scene.polygon_at(q) } else { None };
         self.seen.found += u64::from(rust.is_some());
@@ -703,6 +733,25 @@ impl Held {
                 },
             );
 
+            if known {
+                let (f, inner_ends) = site.inner_edge(e);
+                let (g, inner_end) = site.inner_edge_end(e);
+                let (h, inner_owner) = site.inner_edge_owner(e);
+                self.reads.add(
+                    At(plan, &format!("edge {e}")),
+                    Told {
+                        numbers: &[f.into(), g.into(), h.into()],
+                        words: &[&[inner_end, inner_owner]],
+                        floats: &[&inner_ends],
+                    },
+                    Told {
+                        numbers: &[a.into(), b.into(), c.into()],
+                        words: &[&[end, owner]],
+                        floats: &[&ends],
+                    },
+                );
+            }
+
             let some = r.below(u64::from(polygons) + 1) as u32;
             let id = [some, polygons.wrapping_sub(1), polygons, any][k];
             let known = id < polygons;
@@ -736,6 +785,23 @@ impl Held {
                     floats: &[&rust.map_or([0.0; 4], |p| four(p.aabb)), &flat],
                 },
             );
+            if known {
+                let (f, inner_place, inner_b) = site.inner_polygon(id);
+                let (g, inner_number) = site.inner_polygon_vertices_number(id);
+                self.reads.add(
+                    At(plan, &format!("polygon {id}")),
+                    Told {
+                        numbers: &[f.into(), g.into(), inner_number],
+                        words: &[&inner_place],
+                        floats: &[&inner_b],
+                    },
+                    Told {
+                        numbers: &[a.into(), c.into(), number],
+                        words: &[&place],
+                        floats: &[&b],
+                    },
+                );
+            }
         }
     }
 
@@ -859,6 +925,7 @@ impl Held {
             self.polygon_at,
             self.cast_ray,
             self.many,
+            self.reads,
             self.edges,
             self.polygons,
             self.heads,

@@ -1,5 +1,7 @@
 //! What every comparison shares.
 
+#[cfg(published)]
+pub mod arena;
 pub mod bits;
 #[cfg(published)]
 pub mod call;

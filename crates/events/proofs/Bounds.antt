@@ -1,7 +1,7 @@
 -- THE COUNTS OF MERGING (document 01's demand on E and S). `spots-le`: there are no more merged events than unmerged ones. `sides-le`: no more
 -- sides than among the unmerged ones; with events that are no sides and a sector's two, `sides-two`.
 -- Assumes nothing.
-use mathlib.Core.Path.{_≡_, refl, ap, _∙_}
+use mathlib.Core.Path.{_≡_, refl, ap}
 use mathlib.Core.Bool.{Bool, true, false, cond, _||_}
 use mathlib.Core.List.{List, [], _∷_, _++_}
 use Prim.Native.Nat.{ℕ, suc, _+_, _≤_}
@@ -11,8 +11,9 @@ use lib.ListN.{length}
 use Rattle.lists.specs.Lists.{bit, sumOver}
 use Rattle.lists.specs.Members.{All}
 use Rattle.room.specs.declared.Event.{Event}
-use Rattle.sorts.specs.Sort.{insert, sort}
+use Rattle.sorts.specs.Sort.{sort}
 use Rattle.sorts.proofs.Merging.{length-sort}
+use Rattle.sorts.proofs.Stable.{sum-sort}
 use Rattle.events.specs.Spots.{Spot, opened, isNear, met, closed, gather, gathered, byAngle, sidesOf, spotsOf, sideCount}
 
 -- ---- how many
@@ -55,20 +56,6 @@ gather-sides s (e ∷ es) = by (isNear (s .angle) (e .angle)) (gather-sides (met
 gathered-sides : (es : List Event) → sideCount (gathered es) ≤ sideEvents es
 gathered-sides [] = omega arith
 gathered-sides (e ∷ es) = gather-sides (opened e) es
-
--- sorting keeps a sum
-module _ {A : Type 0} (lt : A → A → Bool) (h : A → ℕ) where
-  sum-insert : (x : A) (ys : List A) → sumOver h (insert lt x ys) ≡ h x + sumOver h ys
-  sum-insert x [] = refl
-  sum-insert x (y ∷ ys) = by (lt y x) (sum-insert x ys)
-    where
-      by : (b : Bool) → sumOver h (insert lt x ys) ≡ h x + sumOver h ys → sumOver h (cond b (y ∷ insert lt x ys) (x ∷ y ∷ ys)) ≡ h x + (h y + sumOver h ys)
-      by true e = omega arith
-      by false e = refl
-
-  pub sum-sort : (xs : List A) → sumOver h (sort lt xs) ≡ sumOver h xs
-  sum-sort [] = refl
-  sum-sort (x ∷ xs) = sum-insert x (sort lt xs) ∙ ap (λ (n : ℕ). h x + n) (sum-sort xs)
 
 pub sides-le : (es : List Event) → sideCount (spotsOf es) ≤ sumOver (λ (e : Event). bit (e .side)) es
 unfolding spotsOf

@@ -12,6 +12,7 @@ use lib.ListN.{length}
 use Rattle.num.specs.Ops.{_⊖_, zeroF}
 use Rattle.num.specs.Order.{before}
 use Rattle.lists.specs.Lists.{bit, sumOver}
+use Rattle.room.specs.Constants.{noVertex}
 use Rattle.room.specs.declared.Event.{Event}
 use Rattle.sorts.specs.Sort.{sort}
 
@@ -22,10 +23,6 @@ pico = ofBits binary64 0x3d71_9799_812d_ea11
 pub pico-is : pico ≡ round binary64 false 1 (10 ^ 12)
 unfolding ofBits round
 pico-is = refl
-
--- the vertex of an event that has none
-abbrev pub noVertex : ℕ
-noVertex = 4294967295
 
 -- an event after merging: the kept angle, its corner, whether it is a side of the sector, and the corners kept aside
 pub record Spot : Type 0 where

@@ -1,6 +1,7 @@
 // Questions without the tests of the tables and of the domain, for comparing and timing alone: what an answer costs beside its tests. They are no part
 // of the interface for users. Every content of every slice is allowed. `bf_inner_polygon_at` and `bf_inner_cast_ray` ask one question, and their status is
 // always 0. `bf_inner_held` and `bf_inner_hits` ask many in one call, so that the C call is not timed with each: they count. Meanings: specs/Many.antt.
+// Questions that only read are in src/reads.rt.
 use geom::Vec2;
 use grid::Grid;
 use scene::Look;

@@ -3,6 +3,7 @@
 // refusal. A site is six floats (width, height, the grid's origin, cell and its inverse), five numbers (columns, rows, polygons, points, items) and the six
 // tables. In C a slice is a pointer and a length, and an array is a pointer.
 pub mod inner;
+pub mod reads;
 
 use geom::Vec2;
 use random::SceneConfig;

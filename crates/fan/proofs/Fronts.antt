@@ -20,7 +20,8 @@ use Rattle.cone.specs.declared.View.{View}
 use Rattle.room.specs.declared.LocalEdge.{LocalEdge}
 use Rattle.room.specs.declared.Event.{Event}
 use Rattle.fan.specs.declared.Seen.the-variants.{Back}
-use Rattle.fan.specs.Sides.{noVertex, facing, startOf, stopOf, relOf, endOf, partOf, clippedOf, inRange, frontOf, foundOf}
+use Rattle.room.specs.Constants.{noVertex}
+use Rattle.fan.specs.Sides.{facing, startOf, stopOf, relOf, endOf, partOf, clippedOf, inRange, frontOf, foundOf}
 use Rattle.fan.specs.Fan.{Fanned, fanned, nothing, both, endFan, seenFan, sideFan, sideAt, sidesFan, isFar, polygonFan, fanOf}
 use Rattle.fan.specs.Fronts.{IsFront, IsEnd}
 

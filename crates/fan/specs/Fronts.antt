@@ -11,7 +11,8 @@ use Rattle.site.specs.Tables.{firstOf, lenOf, pointAt}
 use Rattle.cone.specs.declared.View.{View}
 use Rattle.room.specs.declared.LocalEdge.{LocalEdge}
 use Rattle.room.specs.declared.Event.{Event}
-use Rattle.fan.specs.Sides.{noVertex, facing}
+use Rattle.room.specs.Constants.{noVertex}
+use Rattle.fan.specs.Sides.{facing}
 
 -- e is the edge i of a polygon of the list, and its cross product is not zero or more: it is negative, there being no NaN in the domain
 pub record IsFront (v : View) (points : List Float) (polygons ids : List ℕ) (e : LocalEdge) : Type 0 where

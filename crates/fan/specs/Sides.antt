@@ -12,6 +12,7 @@ use Rattle.geom.specs.Constants.{nano}
 use Rattle.geom.specs.Vec.{crossOf, lengthSqOf, subOf, angleOf, lerpOf}
 use Rattle.geom.specs.Segment.{normalOf, clipSegmentToDiskOf, pointSegmentDistanceOf}
 use Rattle.cone.specs.declared.View.{View}
+use Rattle.room.specs.Constants.{noVertex}
 use Rattle.room.specs.declared.LocalEdge.{LocalEdge}
 use Rattle.fan.specs.declared.End.{End}
 use Rattle.fan.specs.declared.Seen.{Seen}
@@ -38,10 +39,6 @@ startOf a b t0 = cond (le t0 zeroF) a (lerpOf a b t0)
 
 unfoldable pub stopOf : Vec2 → Vec2 → Float → Vec2
 stopOf a b t1 = cond (le oneF t1) b (lerpOf a b t1)
-
--- the vertex of an event that has none
-abbrev pub noVertex : ℕ
-noVertex = 4294967295
 
 -- an end of a front edge, at an angle: at the corner of number i, or where the range cuts the edge. It is an event where the view holds it
 unfoldable pub endOf : View → Float → Bool → ℕ → End

@@ -374,7 +374,7 @@ pub enum Clip {
 // By how much `spans` takes a number larger than it needs, so that rounding does not bring it back under.
 const MARGIN: f64 = 1.00000001;
 
-// Does the line run through the disk from before the segment's start to beyond its end? It answers only where the order of squares tells: then -qb is not
+// Does the line run through the disk from before the segment's start to beyond its end? It says yes only where the order of squares tells: then -qb is not
 // above the root of `disc`, and u, which with -qb makes up 2 * qa, is not either. So most segments that lie in the disk cost no root.
 fn spans(qa: f64, qb: f64, disc: f64) -> bool
     ensures { λ r. ⌜ (r ≡ true → (maxOf zeroF (lower qa qb (sqrtOf disc)) ≡ zeroF) × (minOf (higher qa qb (sqrtOf disc)) oneF ≡ oneF)) ⌝ }

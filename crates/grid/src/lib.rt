@@ -4,7 +4,7 @@
 use geom::Aabb;
 use geom::Vec2;
 ghost use mathlib.Core.Path.{_≡_};
-ghost use Prim.Native.Nat.{suc, _+_, _-_, _^_, _≤_, _<_, min};
+ghost use Prim.Native.Nat.{suc, _+_, _-_, _^_, _≤_, _<_};
 ghost use lib.ListN.{length, set, replicate};
 ghost use lib.Seq.{sets};
 ghost use Rattle.num.specs.Num.{floorOf};
@@ -204,18 +204,11 @@ pub fn cell_items<'a>(starts: &[u32], items: &'a [u32], c: usize) -> &'a [u32]
         return &items[0..0];
     }
     let a = lists::wide(starts[c]);
-    let z = least(lists::wide(lists::at32(starts, c + 1)), items.len());
+    let z = lists::least(lists::wide(lists::at32(starts, c + 1)), items.len());
     if z < a {
         return &items[0..0];
     }
     &items[a..z]
-}
-
-// The smaller of two.
-fn least(a: usize, b: usize) -> usize
-    ensures { λ r. ⌜ r ≡ min a b ⌝ }
-{
-    if a < b { a } else { b }
 }
 
 // Is the point p, in the column c and the row r, off a grid of nc columns and nr rows? A NaN is nowhere.

@@ -3,7 +3,7 @@ use mathlib.Core.Path.{_≡_, refl, sym, ap, _∙_, subst}
 use mathlib.Core.Logic.{⊎-elim}
 use mathlib.Core.Bool.{Bool, true, false}
 use mathlib.Core.List.{List, [], _∷_, map}
-use Prim.Native.Nat.{ℕ, zero, suc, _+_, _-_, _≤_, _<_}
+use Prim.Native.Nat.{ℕ, zero, suc, _+_, _-_, _*_, _≤_, _<_}
 use native.Mathlib.Omega.{arith}
 use lib.ListN.{length, getD, drop}
 use lib.Ieee.{Float, le}
@@ -73,6 +73,34 @@ sum-stretch s m h =
     (λ l. sumTo-ext (λ b. bit (covers s b)) (λ _. 0) m (λ b g. ap bit (turned (s .from) (s .to) b l)) ∙ sumTo-zero m ∙ omega arith)
     (lt-or-le (s .from) (s .to))
 
+-- a stretch has no more buckets than there are
+width-few : (m : ℕ) (s : Spans) → Inside m s → edgeRefs s ≤ m + m
+width-few m s i = omega (arith, i .first-in, i .second-in)
+
+-- ---- the edges as they stand
+
+module _ (spans : ℕ → Spans) (m : ℕ) (inside : (i : ℕ) → Inside m (spans i)) where
+  pub none-past : (n b : ℕ) → m ≤ b → sumTo (λ i. edgeBits (spans i) b) n ≡ 0
+  none-past zero b h = refl
+  none-past (suc n) b h = omega (arith, none-past n b h, bits-past m (spans n) b (inside n) h)
+
+  -- as many as the stretches have buckets, all told
+  pub many-refs : (n : ℕ) → sumTo (λ b. sumTo (λ i. edgeBits (spans i) b) n) m ≡ sumTo (λ i. edgeRefs (spans i)) n
+  many-refs zero = sumTo-zero m
+  many-refs (suc n) =
+      sumTo-add (λ b. sumTo (λ i. edgeBits (spans i) b) n) (edgeBits (spans n)) m
+      ∙ omega (
+        arith,
+        sumTo-add (λ b. bit (covers (spans n .first) b)) (λ b. bit (covers (spans n .second) b)) m,
+        sum-stretch (spans n .first) m (inside n .first-in),
+        sum-stretch (spans n .second) m (inside n .second-in),
+        many-refs n,
+      )
+
+  pub refs-few : m ≤ 65536 → (n : ℕ) → sumTo (λ i. edgeRefs (spans i)) n ≤ 131072 * n
+  refs-few h zero = omega arith
+  refs-few h (suc n) = omega (arith, refs-few h n, width-few m (spans n) (inside n))
+
 -- ---- the lists of the buckets
 
 module _ {A : Type 0} (spans : A → Spans) where
@@ -89,24 +117,10 @@ module _ {A : Type 0} (spans : A → Spans) where
   rest-few [] (suc r) b = omega arith
   rest-few (e ∷ es) (suc r) b = omega (arith, rest-few es r b, length-more e es b)
 
-  module _ (m : ℕ) (inside : (e : A) → Inside m (spans e)) where
-    pub none-past : (es : List A) (b : ℕ) → m ≤ b → length (inBucket spans es b) ≡ 0
-    none-past [] b h = refl
-    none-past (e ∷ es) b h = omega (arith, length-more e es b, bits-past m (spans e) b (inside e) h, none-past es b h)
-
-    -- as many as the stretches have buckets, all told
-    pub many-refs : (es : List A) → sumTo (λ b. length (inBucket spans es b)) m ≡ sumOver (λ e. edgeRefs (spans e)) es
-    many-refs [] = sumTo-zero m
-    many-refs (e ∷ es) =
-        sumTo-ext (λ b. length (inBucket spans (e ∷ es) b)) (λ b. edgeBits (spans e) b + length (inBucket spans es b)) m (λ b l. length-more e es b)
-        ∙ sumTo-add (edgeBits (spans e)) (λ b. length (inBucket spans es b)) m
-        ∙ omega (
-          arith,
-          sumTo-add (λ b. bit (covers (spans e .first) b)) (λ b. bit (covers (spans e .second) b)) m,
-          sum-stretch (spans e .first) m (inside e .first-in),
-          sum-stretch (spans e .second) m (inside e .second-in),
-          many-refs es,
-        )
+  -- a bucket has as many as cover it
+  pub length-bucket : (es : List A) (b : ℕ) → length (inBucket spans es b) ≡ sumOver (λ e. edgeBits (spans e) b) es
+  length-bucket [] b = refl
+  length-bucket (e ∷ es) b = length-more e es b ∙ ap (λ (q : ℕ). edgeBits (spans e) b + q) (length-bucket es b)
 
 module _ {A B : Type 0} (f : A → B) where
   map-consIf : (t : Bool) (x : A) (l : List A) → map f (consIf t x l) ≡ consIf t (f x) (map f l)
@@ -126,13 +140,6 @@ pub drop-down : (l : List ℕ) (r : ℕ) → 0 < r → r ≤ length l → drop (
 drop-down l r h g =
     let e : r - 1 + 1 ≡ r = omega arith in
     drop-here l (r - 1) 0 (omega arith) ∙ ap (λ (q : ℕ). getD l (r - 1) 0 ∷ drop q l) e
-
-pub sum-down : (f : ℕ → ℕ) (l : List ℕ) (r : ℕ) → 0 < r → r ≤ length l → sumOver f (drop (r - 1) l) ≡ f (getD l (r - 1) 0) + sumOver f (drop r l)
-sum-down f l r h g = ap (sumOver f) (drop-down l r h g)
-
--- a stretch has no more buckets than there are
-pub width-few : (m : ℕ) (s : Spans) → Inside m s → edgeRefs s ≤ m + m
-width-few m s i = omega (arith, i .first-in, i .second-in)
 
 -- a stretch that ends before it begins counts as one that ends where it begins
 pub within-long : (a c b : ℕ) → within a (a + (c - a)) b ≡ within a c b

@@ -1,12 +1,13 @@
 -- The building as a whole: the order of nearness read as edges, what the references are, and each way through `build`. Assumes nothing.
 use mathlib.Core.Path.{_≡_, refl, sym, ap, _∙_, subst}
 use mathlib.Core.Logic.{inl}
-use mathlib.Core.Bool.{Bool, true, false}
+use mathlib.Core.Bool.{Bool, true, false, true≢false, _||_}
 use mathlib.Core.List.{List, [], _∷_, map}
 use Prim.Native.Nat.{ℕ, _+_, _≤_, _<_}
 use native.Mathlib.Nat.{le-refl}
 use native.Mathlib.Omega.{arith}
 use lib.ListN.{length, getD, take, drop, length-map}
+use lib.Dec.{ltb}
 use lib.Ieee.{Float, nan}
 use borrow.Author.Tests.{lt-ltb, le-ltb}
 use Rattle.lists.specs.Lists.{consIf, sumTo, sumOver, listed}
@@ -20,7 +21,7 @@ use Rattle.lists.proofs.Only.{only-refl, only-part}
 use Rattle.sorts.specs.By.{keyOrder}
 use Rattle.sorts.specs.Sort.{sort}
 use Rattle.sorts.specs.Fronts.{Ordered}
-use Rattle.sorts.proofs.Keyed.{read-order, length-order, order-below}
+use Rattle.sorts.proofs.Keyed.{read-order, length-order, order-below, order-sum}
 use Rattle.room.specs.declared.Rooms.{Rooms}
 use Rattle.room.specs.declared.LocalEdge.{LocalEdge}
 use Rattle.room.specs.Layout.{edgesW, nearestW, eventsW, startsW, samplesW}
@@ -29,11 +30,11 @@ use Rattle.room.proofs.Kept.{edges-kept}
 use Rattle.index.specs.declared.AngularIndex.{AngularIndex}
 use Rattle.index.specs.declared.Indexed.{Indexed}
 use Rattle.index.specs.declared.Spans.{Spans}
-use Rattle.index.specs.Spans.{bucketsFor, headOf, spansOf, covers, edgeRefs}
+use Rattle.index.specs.Spans.{bucketsFor, headOf, spansOf, covers, edgeBits}
 use Rattle.index.specs.Angular.{inBucket, nearer, nearestFirst, Index, bucketEdges, indexOf, refsOf}
-use Rattle.index.specs.Stands.{refsAt, indexIn, Ready, overOf, Builds}
-use Rattle.index.specs.Filling.{spansAt, orderIn, refsBy, manyBy, Fillable, Filled}
-use Rattle.index.proofs.Buckets.{at-inside, many-refs, map-bucket}
+use Rattle.index.specs.Stands.{refsAt, indexIn, Within, Ready, overOf, Builds}
+use Rattle.index.specs.Filling.{spansAt, orderIn, refsBy, manyBy, countTo, refsTo, Fillable, Held, Filled}
+use Rattle.index.proofs.Buckets.{at-inside, many-refs, refs-few, length-bucket, map-bucket}
 
 -- what all of a list have, those of a bucket have
 pub all-bucket : {A : Type 0} (spans : A → Spans) (P : A → Type 0) (l : List A) (b : ℕ) → All P l → All P (inBucket spans l b)
@@ -98,61 +99,77 @@ module _ (k : Rooms) (floats : List Float) (words : List ℕ) (n : ℕ) (total :
       (λ b l. sym (length-map (refsBy k floats x total (orderIn k w₁ n) b) (edgeAt k floats w₁)) ∙ ap length (bucket-read w₁ numbers₁ b))
       ∙ ap (λ (h : AngularIndex). sumTo (λ b. length (bucketEdges h total (edgesIn k floats words n) b)) (h .buckets)) head-is
 
-  -- the index that stands in the room
-  stands-in : (w₂ : List ℕ) → Filled k floats x total n w₁ w₂ → indexIn k floats w₂ x ≡ indexOf total (edgesIn k floats words n)
-  unfolding indexIn indexOf made
-  stands-in w₂ f =
-      let numbers : part (edgesW k) (nearestW k) w₂ ≡ part (edgesW k) (nearestW k) words = only-part (edgesW k) (nearestW k) (f .only) (inl (omega arith)) ∙ numbers₁ in
-      ap (made x) (listed-ext (λ b. map (edgeAt k floats w₂) (refsAt k w₂ b)) (bucketEdges x total (edgesIn k floats words n)) (x .buckets)
-      (λ b g. ap (map (edgeAt k floats w₂)) (f .blocks b g) ∙ bucket-read w₂ numbers b))
-      ∙ ap (λ (h : AngularIndex). made h (listed (bucketEdges h total (edgesIn k floats words n)) (h .buckets))) head-is
+  -- each edge is once in the order
+  alike : (b : ℕ) → length (refsBy k floats x total (orderIn k w₁ n) b) ≡ countTo k floats x total n b
+  alike b =
+      length-bucket (spansAt k floats x total) (orderIn k w₁ n) b
+      ∙ ap (sumOver (λ i. edgeBits (spansAt k floats x total i) b)) order-is
+      ∙ order-sum (λ i. edgeBits (spansAt k floats x total i) b) (part 0 (0 + n) floats) n
 
-  module _ (refs : ℕ) (hr : refs ≡ sumOver (λ i. edgeRefs (spansAt k floats x total i)) (part at (at + n) w₁)) where
-    pub refs-many : refs ≡ manyBy k floats x total (orderIn k w₁ n)
-    refs-many =
-        hr ∙ ap (λ (q : ℕ). sumOver (λ i. edgeRefs (spansAt k floats x total i)) (part q (q + n) w₁)) hat
-        ∙ sym (many-refs (spansAt k floats x total) (x .buckets) (λ i. at-inside k floats x total i (some-few .0)) (orderIn k w₁ n))
+  refs-are : refsTo k floats x total n ≡ refsOf total (edgesIn k floats words n)
+  refs-are =
+      sym (many-refs (spansAt k floats x total) (x .buckets) (λ i. at-inside k floats x total i (some-few .0)) n)
+      ∙ sym (sumTo-ext (λ b. length (refsBy k floats x total (orderIn k w₁ n) b)) (countTo k floats x total n) (x .buckets) (λ b l. alike b))
+      ∙ many-is
 
-    abbrev answer : Bool → Indexed
-    answer over = record { index = x; refs = refs; over = over }
+  -- so few edges have not too many
+  pub not-many : n < 32768 → refsTo k floats x total n ≤ 4294967295
+  not-many h = omega (arith, refs-few (spansAt k floats x total) (x .buckets) (λ i. at-inside k floats x total i (some-few .0)) (some-few .1) n)
 
-    over-by : overOf k (x .buckets) refs ≡ true → Builds k floats words n total (answer true) w₁
+  -- ---- it passes its entries
+  module _ (refs : ℕ) (hr : refs ≡ refsTo k floats x total n) where
+    over-by : overOf k (x .buckets) refs ≡ true → Builds k floats words n total (record { index = x; refs = refs; over = true }) w₁
     over-by e = record {
       head = hx;
-      refs = refs-many ∙ many-is;
+      refs = hr ∙ refs-are;
       over = sym e;
-      stands = λ f. absurd (let z : _≡_ {A = ℕ} 0 1 = cc in omega arith);
-      sound = λ f. absurd (let z : _≡_ {A = ℕ} 0 1 = cc in omega arith);
+      stands = λ f. absurd (true≢false f);
+      sound = λ f. absurd (true≢false f);
       between = w₁;
       ordered = ordered;
       filled = only-refl (startsW k) (samplesW k) w₁;
     }
 
-    pub over-starts : k .starts ≤ x .buckets → Builds k floats words n total (answer true) w₁
+    pub over-starts : k .starts ≤ x .buckets → Builds k floats words n total (record { index = x; refs = refs; over = true }) w₁
     over-starts h = over-by (rw (lt-ltb (k .starts) (x .buckets + 1) (omega arith)))
 
-    module _ (fits : x .buckets < k .starts) where
-      pub over-refs : k .refs < refs → Builds k floats words n total (answer true) w₁
-      over-refs h = over-by (rw (le-ltb (k .starts) (x .buckets + 1) (omega arith), lt-ltb (k .refs) refs h))
+    pub over-refs : x .buckets < k .starts → k .refs < refs → Builds k floats words n total (record { index = x; refs = refs; over = true }) w₁
+    over-refs fits h = over-by (rw (le-ltb (k .starts) (x .buckets + 1) (omega arith), lt-ltb (k .refs) refs h))
 
-      module _ (few : refs ≤ k .refs) where
-        pub fillable : refs ≤ 4294967295 → Fillable k floats x total n refs w₁
-        fillable small = record { ready = ready₁; some = some-few .0; starts-fit = fits; refs-fit = few; small = small; refs-are = refs-many }
+  -- ---- the starts fit
+  module _ (fits : x .buckets < k .starts) where
+    pub fillable : refsTo k floats x total n ≤ 4294967295 → Fillable k floats x total n w₁
+    fillable small = record { endable = record { ready = ready₁; some = some-few .0; starts-fit = fits; small = small }; alike = alike }
 
-        pub done : (w₂ : List ℕ) → Filled k floats x total n w₁ w₂ → Builds k floats words n total (answer false) w₂
-        done w₂ f = record {
-          head = hx;
-          refs = refs-many ∙ many-is;
-          over = sym (rw (le-ltb (k .starts) (x .buckets + 1) (omega arith), le-ltb (k .refs) refs few));
-          stands = λ _. stands-in w₂ f;
-          sound = λ _. record {
-            some = some-few .0;
-            starts-in = fits;
-            refs-in = f .starts;
-            named = λ b g. rw (f .blocks b g) (all-bucket (spansAt k floats x total) (λ i. i < k .edges) (orderIn k w₁ n) b
-                (rw order-is (all-map (λ i. i < n) (λ i. i < k .edges) (λ i l. omega (arith, ready .held)) (keyOrder (part 0 (0 + n) floats) n) (order-below (part 0 (0 + n) floats) n))));
-          };
-          between = w₁;
-          ordered = ordered;
-          filled = f .only;
-        }
+    module _ (r : Indexed) (w₂ : List ℕ) (f : Filled k floats x total n w₁ r w₂) where
+      -- the index that stands in the room
+      stands-in : Held k floats x total n w₁ w₂ → indexIn k floats w₂ x ≡ indexOf total (edgesIn k floats words n)
+      unfolding indexIn indexOf made
+      stands-in s =
+          let numbers : part (edgesW k) (nearestW k) w₂ ≡ part (edgesW k) (nearestW k) words = only-part (edgesW k) (nearestW k) (f .only) (inl (omega arith)) ∙ numbers₁ in
+          ap (made x) (listed-ext (λ b. map (edgeAt k floats w₂) (refsAt k w₂ b)) (bucketEdges x total (edgesIn k floats words n)) (x .buckets)
+          (λ b g. ap (map (edgeAt k floats w₂)) (s .blocks b g) ∙ bucket-read w₂ numbers b))
+          ∙ ap (λ (h : AngularIndex). made h (listed (bucketEdges h total (edgesIn k floats words n)) (h .buckets))) head-is
+
+      sound-in : Held k floats x total n w₁ w₂ → Within k w₂ x
+      sound-in s = record {
+        some = some-few .0;
+        starts-in = fits;
+        refs-in = s .starts;
+        named = λ b g. rw (s .blocks b g) (all-bucket (spansAt k floats x total) (λ i. i < k .edges) (orderIn k w₁ n) b
+            (rw order-is (all-map (λ i. i < n) (λ i. i < k .edges) (λ i l. omega (arith, ready .held)) (keyOrder (part 0 (0 + n) floats) n) (order-below (part 0 (0 + n) floats) n))));
+      }
+
+      pub done : Builds k floats words n total r w₂
+      done =
+          let e : r .index .buckets ≡ x .buckets = ap (λ (q : AngularIndex). q .buckets) (f .index) in
+          record {
+            head = f .index ∙ hx;
+            refs = f .refs ∙ refs-are;
+            over = f .over ∙ ap (λ (t : Bool). t || ltb (k .refs) (r .refs)) (sym (le-ltb (k .starts) (r .index .buckets + 1) (omega arith)));
+            stands = λ o. ap (indexIn k floats w₂) (f .index) ∙ stands-in (f .stands o);
+            sound = λ o. subst (Within k w₂) (sym (f .index)) (sound-in (f .stands o));
+            between = w₁;
+            ordered = ordered;
+            filled = f .only;
+          }

@@ -1,28 +1,27 @@
--- The two passes over the edges, from the farthest to the nearest: counting, and putting in. Assumes nothing.
+-- The two passes over the edges: counting, as they stand, and putting in, from the farthest to the nearest. Assumes nothing.
 use mathlib.Core.Path.{_≡_, refl, sym, ap, _∙_, subst}
 use mathlib.Core.Logic.{⊎-elim}
-use mathlib.Core.List.{List, [], _∷_, _++_, append-nil}
-use Prim.Native.Nat.{ℕ, zero, suc, _+_, _-_, _≤_, _<_}
-use native.Mathlib.Nat.{le-refl, sub-self}
+use mathlib.Core.List.{List, [], _∷_, _++_}
+use Prim.Native.Nat.{ℕ, suc, _+_, _-_, _≤_, _<_}
+use native.Mathlib.Nat.{le-refl}
+use native.Mathlib.Numerals.{add-one}
 use native.Mathlib.Omega.{arith}
-use lib.ListN.{length, getD, take, drop, replicate, length-take, length-drop, length-replicate, drop-of-length-le, replicate-append-replicate, take-append-drop}
-use lib.Seq.{drop-drop, getD-take, ext-getD}
+use lib.ListN.{length, getD, take, drop, length-drop, drop-of-length-le}
+use lib.Seq.{drop-drop, getD-take}
 use lib.Ieee.{Float}
 use borrow.Rule.Slice.PartMut.{midOf, putMid, mid-len, same-len-mid, take-put}
 use Rattle.lists.specs.Lists.{consIf, sumTo, joined}
 use Rattle.lists.proofs.Cases.{lt-or-le}
 use Rattle.lists.proofs.Sums.{sumTo-step}
-use Rattle.lists.proofs.Joined.{joined-ext}
-use Rattle.lists.proofs.Zeros.{getD-zeros}
 use Rattle.lists.proofs.Parts.{part-rest, back-rest, front-getD, getD-part}
 use Rattle.tables.specs.Scatter.{State}
-use Rattle.tables.proofs.Puts.{state-ext}
+use Rattle.tables.proofs.Puts.{state-ext, state-none, state-full}
 use Rattle.room.specs.declared.Rooms.{Rooms}
 use Rattle.room.specs.Layout.{nearestW, startsW, refsW, wordsFor}
 use Rattle.index.specs.declared.AngularIndex.{AngularIndex}
 use Rattle.index.specs.declared.Spans.{Spans}
 use Rattle.index.specs.Spans.{covers, edgeBits}
-use Rattle.index.specs.Filling.{spansAt, orderIn, refsBy, manyBy, CountRoom, Counting, Counted, PutRoom, PutBoth, Putting, Placed}
+use Rattle.index.specs.Filling.{spansAt, orderIn, refsBy, manyBy, countTo, CountRoom, Counting, Counted, PutRoom, PutBoth, Putting, Placed}
 use Rattle.index.proofs.Buckets.{Inside, at-inside, bits-past, bits-inside, length-more, rest-few, drop-down}
 
 -- ---- the order of nearness
@@ -37,7 +36,7 @@ order-read : (k : Rooms) (w₀ w : List ℕ) (n r : ℕ) → n ≤ k .edges → 
 order-read k w₀ w n r few h l e =
     front-getD (startsW k) w w₀ (nearestW k + (r - 1)) 0 (omega arith) e ∙ sym (getD-part (nearestW k) (nearestW k + n) w₀ (r - 1) 0 (omega arith))
 
--- ---- one edge of either pass: s are its buckets and p the place of the order
+-- ---- one edge that is put in: s are its buckets and p the place of the order
 module _ (k : Rooms) (floats : List Float) (x : AngularIndex) (total : Float) (n : ℕ) (w₀ : List ℕ) (few : n ≤ k .edges) (fit : wordsFor k ≤ length w₀) (some : 0 < x .buckets)
     (w : List ℕ) (r : ℕ) (h : 0 < r) (l : r ≤ n) (st : ℕ) (hst : st ≡ startsW k) (front : take st w ≡ take st w₀) (p : ℕ) (hp : p ≡ nearestW k)
     (s : Spans) (hs : s ≡ spansAt k floats x total (getD w (p + (r - 1)) 0)) where
@@ -79,31 +78,32 @@ tail-is : (st : ℕ) (w : List ℕ) → midOf st (length w - st) w ≡ drop st w
 tail-is st w = part-rest st w
 
 -- ---- the counting
-pub record Tallied (k : Rooms) (floats : List Float) (x : AngularIndex) (total : Float) (n st : ℕ) (w₀ w : List ℕ) (r : ℕ) : Type 0 where
-  pub left : r ≤ n
+pub record Tallied (k : Rooms) (floats : List Float) (x : AngularIndex) (total : Float) (n st : ℕ) (w₀ w : List ℕ) (i : ℕ) : Type 0 where
+  pub few : i ≤ n
   pub long : length w ≡ length w₀
   pub front : take st w ≡ take st w₀
-  pub counts : (b : ℕ) → getD (drop st w) b 0 ≡ getD (drop st w₀) b 0 + length (refsBy k floats x total (drop r (orderIn k w₀ n)) b)
+  pub counts : (b : ℕ) → getD (drop st w) b 0 ≡ getD (drop st w₀) b 0 + countTo k floats x total i b
 
 module _ (k : Rooms) (floats : List Float) (x : AngularIndex) (total : Float) (n : ℕ) (w₀ : List ℕ) (pre : Counting k floats x total n w₀) (st : ℕ) (hst : st ≡ startsW k) where
-  pub tallied-none : Tallied k floats x total n st w₀ w₀ n
-  tallied-none =
-      let e : drop n (orderIn k w₀ n) ≡ [] = order-end k w₀ n (pre .ready .held) (pre .ready .fit .words-fit) in
-      record { left = le-refl n; long = refl; front = refl; counts = λ b. omega (arith, ap (λ (q : List ℕ). length (refsBy k floats x total q b)) e) }
+  pub tallied-none : Tallied k floats x total n st w₀ w₀ 0
+  tallied-none = record { few = omega arith; long = refl; front = refl; counts = λ b. omega arith }
 
-  pub tallied-all : (w : List ℕ) (r : ℕ) → r ≤ 0 → Tallied k floats x total n st w₀ w r → Counted k floats x total n w₀ w
-  tallied-all w r h t =
-      let e : r ≡ 0 = omega arith in
+  pub tallied-all : (w : List ℕ) (i : ℕ) → n ≤ i → Tallied k floats x total n st w₀ w i → Counted k floats x total n w₀ w
+  tallied-all w i h t =
+      let e : i ≡ n = omega (arith, t .few) in
       record {
         front = subst (λ (q : ℕ). take q w ≡ take q w₀) hst (t .front);
-        counts = λ b. subst (λ (q : ℕ). getD (drop q w) b 0 ≡ getD (drop q w₀) b 0 + length (refsBy k floats x total (orderIn k w₀ n) b)) hst
-            (t .counts b ∙ ap (λ (q : ℕ). getD (drop st w₀) b 0 + length (refsBy k floats x total (drop q (orderIn k w₀ n)) b)) e);
+        counts = λ b. subst (λ (q : ℕ). getD (drop q w) b 0 ≡ getD (drop q w₀) b 0 + countTo k floats x total n b) hst
+            (t .counts b ∙ ap (λ (q : ℕ). getD (drop st w₀) b 0 + countTo k floats x total q b) e);
       }
 
-  module _ (w : List ℕ) (r : ℕ) (h : 0 < r) (t : Tallied k floats x total n st w₀ w r) (p : ℕ) (hp : p ≡ nearestW k) (s : Spans) (hs : s ≡ spansAt k floats x total (getD w (p + (r - 1)) 0)) where
+  module _ (w : List ℕ) (i : ℕ) (h : i < n) (t : Tallied k floats x total n st w₀ w i) (s : Spans) (hs : s ≡ spansAt k floats x total i) where
+    bits-are : (b : ℕ) → edgeBits s b ≡ edgeBits (spansAt k floats x total i) b
+    bits-are b = ap (λ (q : Spans). edgeBits q b) hs
+
     pub count-room : CountRoom s (midOf st (length w - st) w)
     count-room =
-        let i = inside k floats x total n w₀ (pre .ready .held) (pre .ready .fit .words-fit) (pre .some) w r h (t .left) st hst (t .front) p hp s hs in
+        let ins : Inside (x .buckets) s = subst (Inside (x .buckets)) (sym hs) (at-inside k floats x total i (pre .some)) in
         let d = length-drop st w in
         let f = pre .ready .fit .words-fit in
         let g = pre .starts-fit in
@@ -111,27 +111,20 @@ module _ (k : Rooms) (floats : List Float) (x : AngularIndex) (total : Float) (n
         let fits : x .buckets ≤ length (drop st w) = omega (arith, d, f, g, m, hst) in
         subst (CountRoom s) (sym (tail-is st w))
         (record {
-          first-fits = omega (arith, i .first-in, fits);
-          second-fits = omega (arith, i .second-in, fits);
+          first-fits = omega (arith, ins .first-in, fits);
+          second-fits = omega (arith, ins .second-in, fits);
           small = λ b c.
-              let q = bits-inside (x .buckets) s b i c in
+              let q = bits-inside (x .buckets) s b ins c in
               let z : getD (drop st w₀) b 0 ≡ 0 = subst (λ (a : ℕ). getD (drop a w₀) b 0 ≡ 0) (sym hst) (pre .zero b (omega arith)) in
-              omega (
-                arith,
-                z,
-                t .counts b,
-                held-few k floats x total n w₀ (pre .ready .held) (pre .ready .fit .words-fit) (pre .some) w r h (t .left) st hst (t .front) p hp s hs b,
-                block k floats x total n w₀ (pre .ready .held) (pre .ready .fit .words-fit) (pre .some) w r h (t .left) st hst (t .front) p hp s hs b q,
-                pre .small,
-              );
+              omega (arith, z, t .counts b, bits-are b, sumTo-step (λ j. edgeBits (spansAt k floats x total j) b) i n h, pre .small b);
         })
 
     pub tallied-more : (v : List ℕ) → length v ≡ length (midOf st (length w - st) w) → ((b : ℕ) → getD v b 0 ≡ getD (midOf st (length w - st) w) b 0 + edgeBits s b)
-        → Tallied k floats x total n st w₀ (putMid st (length w - st) w v) (r - 1)
+        → Tallied k floats x total n st w₀ (putMid st (length w - st) w v) (i + 1)
     tallied-more v lv d =
         let fits : st ≤ length w = omega (arith, pre .ready .fit .words-fit, t .long, hst) in
         record {
-          left = omega (arith, t .left);
+          few = omega arith;
           long = same-len-mid st (length w - st) w v lv ∙ t .long;
           front = take-put st (length w - st) w v fits ∙ t .front;
           counts = λ b.
@@ -141,30 +134,12 @@ module _ (k : Rooms) (floats : List Float) (x : AngularIndex) (total : Float) (n
                 d b,
                 ap (λ (q : List ℕ). getD q b 0) (tail-is st w),
                 t .counts b,
-                grow k floats x total n w₀ (pre .ready .held) (pre .ready .fit .words-fit) (pre .some) w r h (t .left) st hst (t .front) p hp s hs b,
+                bits-are b,
+                ap (λ (q : ℕ). countTo k floats x total q b) (add-one i),
               );
         }
 
 -- ---- the putting in
--- blocks that hold nothing yet are zeros
-empty-blocks : (h : ℕ → ℕ) (F : ℕ → List ℕ) → ((b : ℕ) → F b ≡ []) → (m : ℕ) → joined (λ b. replicate (h b - length (F b)) 0 ++ F b) m ≡ replicate (sumTo h m) 0
-empty-blocks h F none zero = refl
-empty-blocks h F none (suc m) = rw (empty-blocks h F none m, one m) (replicate-append-replicate (sumTo h m) (h m) 0)
-  where
-    one : (b : ℕ) → replicate (h b - length (F b)) 0 ++ F b ≡ replicate (h b) 0
-    one b =
-        let e : h b - 0 ≡ h b = omega arith in
-        rw (none b, append-nil) (ap (λ (q : ℕ). replicate q 0) e)
-
-full-blocks : (F : ℕ → List ℕ) (m : ℕ) → joined (λ b. replicate (length (F b) - length (F b)) 0 ++ F b) m ≡ joined F m
-full-blocks F m = joined-ext (λ b. replicate (length (F b) - length (F b)) 0 ++ F b) F m (λ b l. rw (sub-self (length (F b))))
-
--- a front of zeros
-zero-front : (l : List ℕ) (m : ℕ) → m ≤ length l → ((j : ℕ) → j < m → getD l j 0 ≡ 0) → take m l ≡ replicate m 0
-zero-front l m h z =
-    let e : length (take m l) ≡ m = length-take m l ∙ omega arith in
-    ext-getD 0 (take m l) (replicate m 0) (e ∙ sym (length-replicate m 0)) (λ j g. getD-take m l j 0 (omega arith) ∙ z j (omega arith) ∙ sym (getD-zeros 0 m j))
-
 pub record Scattered (k : Rooms) (floats : List Float) (x : AngularIndex) (total : Float) (n st rf : ℕ) (w₀ w : List ℕ) (r : ℕ) : Type 0 where
   pub left : r ≤ n
   pub long : length w ≡ length w₀
@@ -191,21 +166,12 @@ module _ (k : Rooms) (floats : List Float) (x : AngularIndex) (total : Float) (n
   scattered-none =
       let e : drop n (orderIn k w₀ n) ≡ [] = order-end k w₀ n (pre .ready .held) (pre .ready .fit .words-fit) in
       let none : (b : ℕ) → refsBy k floats x total (drop n (orderIn k w₀ n)) b ≡ [] = λ b. ap (λ (q : List ℕ). refsBy k floats x total q b) e in
-      let many = manyBy k floats x total (orderIn k w₀ n) in
-      let items = drop rf (drop st w₀) in
-      let z : take many items ≡ replicate many 0
-      = zero-front items many (omega (arith, pre .refs-fit, refs-long w₀ refl)) (λ j g. ap (λ (q : List ℕ). getD q j 0) (refs-are w₀) ∙ pre .zero j g) in
       record {
         left = le-refl n;
         long = refl;
         front = refl;
         starts = λ b. omega (arith, ap length (none b));
-        blocks = record {
-          room = λ b g. rw (none b) (omega arith);
-          at = λ b g. rw (none b) (omega (arith, start-at b g));
-          held = sym (take-append-drop many items) ∙ ap (λ (q : List ℕ). q ++ drop many items)
-              (z ∙ sym (empty-blocks (λ b. length (refsBy k floats x total (orderIn k w₀ n) b)) (refsBy k floats x total (drop n (orderIn k w₀ n))) none (x .buckets)));
-        };
+        blocks = state-none none start-at (omega (arith, pre .refs-fit, refs-long w₀ refl));
       }
 
   pub scattered-all : (w : List ℕ) (r : ℕ) → r ≤ 0 → Scattered k floats x total n st rf w₀ w r → Placed k floats x total n w₀ w
@@ -219,8 +185,7 @@ module _ (k : Rooms) (floats : List Float) (x : AngularIndex) (total : Float) (n
             let a : getD (take rf (drop st w)) b 0 ≡ getD (drop st w) b 0 = getD-take rf (drop st w) b 0 (omega arith) in
             let a₀ : getD (take rf (drop st w₀)) b 0 ≡ getD (drop st w₀) b 0 = getD-take rf (drop st w₀) b 0 (omega arith) in
             subst (λ (q : ℕ). getD (drop q w) b 0 + length (refsBy k floats x total o b) ≡ getD (drop q w₀) b 0) hst (omega (arith, a, a₀, t .starts b, ap length (all b)));
-        refs = sym (refs-are w) ∙ state-ext (refsBy k floats x total o) (λ b. sym (all b)) (t .blocks) .held
-            ∙ ap (λ (q : List ℕ). q ++ drop (manyBy k floats x total o) (drop rf (drop st w₀))) (full-blocks (refsBy k floats x total o) (x .buckets))
+        refs = sym (refs-are w) ∙ state-full (λ b. refl) (state-ext (refsBy k floats x total o) (λ b. sym (all b)) (t .blocks))
             ∙ ap (λ (q : List ℕ). joined (refsBy k floats x total o) (x .buckets) ++ q) (ap (drop (manyBy k floats x total o)) (refs-are w₀) ∙ drop-drop (manyBy k floats x total o) (refsW k) w₀);
       }
 

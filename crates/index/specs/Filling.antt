@@ -1,9 +1,11 @@
--- What the passes of the building ask and do: counting, summing and putting in, from the farthest edge to the nearest (`visibility.rs`, lines 503 to 528).
--- The starts stand from `startsW` on and the references from `refsW` on. Definitions only.
+-- What the passes of the building ask and do: counting, over the edges as they stand, summing, and putting in, from the farthest edge to the nearest
+-- (`visibility.rs`, lines 503 to 528). The starts stand from `startsW` on and the references from `refsW` on. Definitions only.
 use mathlib.Core.Path.{_≡_}
+use mathlib.Core.Bool.{false}
 use mathlib.Core.List.{List, [], _++_}
 use Prim.Native.Nat.{ℕ, suc, _+_, _≤_, _<_}
 use lib.ListN.{length, getD, take, drop}
+use lib.Dec.{ltb}
 use lib.Ieee.{Float}
 use Rattle.lists.specs.Lists.{consIf, sumTo, joined}
 use Rattle.lists.specs.Parts.{part, Only}
@@ -12,8 +14,9 @@ use Rattle.room.specs.declared.Rooms.{Rooms}
 use Rattle.room.specs.Layout.{nearestW, startsW, refsW, samplesW}
 use Rattle.room.specs.Records.{edgeAt}
 use Rattle.index.specs.declared.AngularIndex.{AngularIndex}
+use Rattle.index.specs.declared.Indexed.{Indexed}
 use Rattle.index.specs.declared.Spans.{Spans}
-use Rattle.index.specs.Spans.{spansOf, spansBy, covers, edgeBits}
+use Rattle.index.specs.Spans.{spansOf, spansBy, covers, edgeBits, edgeRefs}
 use Rattle.index.specs.Angular.{inBucket}
 use Rattle.index.specs.Stands.{refsAt, Ready}
 
@@ -33,6 +36,14 @@ refsBy k floats x total order b = inBucket (spansAt k floats x total) order b
 -- how many there are in all
 abbrev pub manyBy : Rooms → List Float → AngularIndex → Float → List ℕ → ℕ
 manyBy k floats x total order = sumTo (λ b. length (refsBy k floats x total order b)) (x .buckets)
+
+-- how often the first n edges are in the bucket b
+abbrev pub countTo : Rooms → List Float → AngularIndex → Float → ℕ → ℕ → ℕ
+countTo k floats x total n b = sumTo (λ i. edgeBits (spansAt k floats x total i) b) n
+
+-- and how many references they have
+abbrev pub refsTo : Rooms → List Float → AngularIndex → Float → ℕ → ℕ
+refsTo k floats x total n = sumTo (λ i. edgeRefs (spansAt k floats x total i)) n
 
 -- ---- one edge
 -- its buckets lie in the starts, and no count passes a `u32`
@@ -62,21 +73,32 @@ pub record Counting (k : Rooms) (floats : List Float) (x : AngularIndex) (total 
   pub ready : Ready k floats words n
   pub some : 0 < x .buckets
   pub starts-fit : x .buckets < k .starts
-  pub small : manyBy k floats x total (orderIn k words n) ≤ 4294967295
+  pub small : (b : ℕ) → countTo k floats x total n b ≤ 4294967295
   pub zero : (b : ℕ) → b ≤ x .buckets → getD (drop (startsW k) words) b 0 ≡ 0
 
 pub record Counted (k : Rooms) (floats : List Float) (x : AngularIndex) (total : Float) (n : ℕ) (words words' : List ℕ) : Type 0 where
   pub front : take (startsW k) words' ≡ take (startsW k) words
-  pub counts : (b : ℕ) → getD (drop (startsW k) words') b 0 ≡ getD (drop (startsW k) words) b 0 + length (refsBy k floats x total (orderIn k words n) b)
+  pub counts : (b : ℕ) → getD (drop (startsW k) words') b 0 ≡ getD (drop (startsW k) words) b 0 + countTo k floats x total n b
 
--- the putting in: the starts are at the blocks' ends, and the references are zero
+-- the ends of the blocks: the counts summed up
+pub record Endable (k : Rooms) (floats : List Float) (x : AngularIndex) (total : Float) (n : ℕ) (words : List ℕ) : Type 0 where
+  pub ready : Ready k floats words n
+  pub some : 0 < x .buckets
+  pub starts-fit : x .buckets < k .starts
+  pub small : refsTo k floats x total n ≤ 4294967295
+
+pub record Ended (k : Rooms) (floats : List Float) (x : AngularIndex) (total : Float) (n : ℕ) (words : List ℕ) (refs : ℕ) (words' : List ℕ) : Type 0 where
+  pub only : Only (startsW k) (refsW k) words words'
+  pub ends : (b : ℕ) → b ≤ x .buckets → getD (drop (startsW k) words') b 0 ≡ sumTo (countTo k floats x total n) (suc b)
+  pub refs-are : refs ≡ refsTo k floats x total n
+
+-- the putting in: the starts are at the blocks' ends. What the references were does not matter
 pub record Putting (k : Rooms) (floats : List Float) (x : AngularIndex) (total : Float) (n : ℕ) (words : List ℕ) : Type 0 where
   pub ready : Ready k floats words n
   pub some : 0 < x .buckets
   pub starts-fit : x .buckets < k .starts
   pub refs-fit : manyBy k floats x total (orderIn k words n) ≤ k .refs
   pub ends : (b : ℕ) → b < x .buckets → getD (drop (startsW k) words) b 0 ≡ sumTo (λ j. length (refsBy k floats x total (orderIn k words n) j)) (suc b)
-  pub zero : (j : ℕ) → j < manyBy k floats x total (orderIn k words n) → getD (drop (refsW k) words) j 0 ≡ 0
 
 pub record Placed (k : Rooms) (floats : List Float) (x : AngularIndex) (total : Float) (n : ℕ) (words words' : List ℕ) : Type 0 where
   pub front : take (startsW k) words' ≡ take (startsW k) words
@@ -84,15 +106,19 @@ pub record Placed (k : Rooms) (floats : List Float) (x : AngularIndex) (total : 
   pub refs : drop (refsW k) words' ≡ joined (refsBy k floats x total (orderIn k words n)) (x .buckets) ++ drop (refsW k + manyBy k floats x total (orderIn k words n)) words
 
 -- ---- the starts and the references
-pub record Fillable (k : Rooms) (floats : List Float) (x : AngularIndex) (total : Float) (n refs : ℕ) (words : List ℕ) : Type 0 where
-  pub ready : Ready k floats words n
-  pub some : 0 < x .buckets
-  pub starts-fit : x .buckets < k .starts
-  pub refs-fit : refs ≤ k .refs
-  pub small : refs ≤ 4294967295
-  pub refs-are : refs ≡ manyBy k floats x total (orderIn k words n)
+-- by the order each bucket has as many as by the edges as they stand
+pub record Fillable (k : Rooms) (floats : List Float) (x : AngularIndex) (total : Float) (n : ℕ) (words : List ℕ) : Type 0 where
+  pub endable : Endable k floats x total n words
+  pub alike : (b : ℕ) → length (refsBy k floats x total (orderIn k words n) b) ≡ countTo k floats x total n b
 
-pub record Filled (k : Rooms) (floats : List Float) (x : AngularIndex) (total : Float) (n : ℕ) (words words' : List ℕ) : Type 0 where
-  pub only : Only (startsW k) (samplesW k) words words'
+-- they stand in the room
+pub record Held (k : Rooms) (floats : List Float) (x : AngularIndex) (total : Float) (n : ℕ) (words words' : List ℕ) : Type 0 where
   pub starts : (b : ℕ) → b ≤ x .buckets → getD words' (startsW k + b) 0 ≤ k .refs
   pub blocks : (b : ℕ) → b < x .buckets → refsAt k words' b ≡ refsBy k floats x total (orderIn k words n) b
+
+pub record Filled (k : Rooms) (floats : List Float) (x : AngularIndex) (total : Float) (n : ℕ) (words : List ℕ) (r : Indexed) (words' : List ℕ) : Type 0 where
+  pub index : r .index ≡ x
+  pub refs : r .refs ≡ refsTo k floats x total n
+  pub over : r .over ≡ ltb (k .refs) (r .refs)
+  pub only : Only (startsW k) (samplesW k) words words'
+  pub stands : r .over ≡ false → Held k floats x total n words words'

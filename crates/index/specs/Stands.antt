@@ -47,7 +47,7 @@ pub record Ready (k : Rooms) (floats : List Float) (words : List ℕ) (n : ℕ) 
 abbrev pub overOf : Rooms → ℕ → ℕ → Bool
 overOf k buckets refs = ltb (k .starts) (buckets + 1) || ltb (k .refs) refs
 
--- The building of the index of the n edges in the room. It writes the order of nearness, and, where they fit, the starts and the references
+-- The building of the index of the n edges in the room. It writes the order of nearness, and the starts and the references, which stand where they fit
 pub record Builds (k : Rooms) (floats : List Float) (words : List ℕ) (n : ℕ) (total : Float) (r : Indexed) (words' : List ℕ) : Type 0 where
   pub head : r .index ≡ headOf n total
   pub refs : r .refs ≡ refsOf total (edgesIn k floats words n)

@@ -12,15 +12,15 @@ ghost use mathlib.Core.Bool.{true};
 ghost use mathlib.Core.List.{[], map};
 ghost use Prim.Native.Nat.{ℕ, _+_, _<_, _≤_};
 ghost use lib.ListN.{length, getD, take, drop};
-ghost use Rattle.lists.specs.Lists.{bit, sumOver};
+ghost use Rattle.lists.specs.Lists.{bit};
 ghost use Rattle.lists.specs.Parts.{part};
 ghost use Rattle.tables.specs.Scatter.{Room, Put};
 ghost use Rattle.geom.specs.Segment.{raySegmentWithin};
 ghost use Rattle.room.specs.Records.{edgeAt};
-ghost use Rattle.index.specs.Spans.{bucketsFor, headOf, bucketOf, clipOf, spansBy, widthOf, covers, edgeBits, edgeRefs};
+ghost use Rattle.index.specs.Spans.{bucketsFor, headOf, bucketOf, clipOf, spansBy, widthOf, covers, edgeBits};
 ghost use Rattle.index.specs.Casting.{betterOf, turnedOf, noneYet, walkOf, castWithin, castOf};
 ghost use Rattle.index.specs.Stands.{indexIn, Ready, Builds};
-ghost use Rattle.index.specs.Filling.{spansAt, CountRoom, Counting, Counted, PutRoom, PutBoth, Putting, Placed, Fillable, Filled};
+ghost use Rattle.index.specs.Filling.{spansAt, refsTo, CountRoom, Counting, Counted, Endable, Ended, PutRoom, PutBoth, Putting, Placed, Fillable, Filled};
 
 const TAU: f64 = 6.283185307179586;
 
@@ -310,17 +310,17 @@ fn edge_spans(k: Rooms, x: AngularIndex, total: f64, floats: &[f64], i: u32) -> 
     )
 }
 
-// How many references the edges of the order have.
-fn count_refs(k: Rooms, x: AngularIndex, total: f64, floats: &[f64], order: &[u32]) -> usize
-    requires { ⌜ (0 < x .buckets) × (x .buckets ≤ 65536) × (length (now order) ≤ 4294967295) ⌝ }
-    ensures { λ r. ⌜ r ≡ sumOver (λ i. edgeRefs (spansAt k (now (floats .entry)) x total i)) (now (order .entry)) ⌝ }
+// How many references the n edges have.
+fn count_refs(k: Rooms, x: AngularIndex, total: f64, floats: &[f64], n: usize) -> usize
+    requires { ⌜ (0 < x .buckets) × (x .buckets ≤ 65536) × (n ≤ 4294967295) ⌝ }
+    ensures { λ r. ⌜ r ≡ refsTo k (now (floats .entry)) x total n ⌝ }
 {
     let mut refs: usize = 0;
-    let mut r = order.len();
-    while 0 < r {
-        r -= 1;
-        let s = edge_spans(k, x, total, floats, order[r]);
+    let mut i: usize = 0;
+    while i < n {
+        let s = edge_spans(k, x, total, floats, i as u32);
         refs += width(s.first) + width(s.second);
+        i += 1;
     }
     refs
 }
@@ -344,20 +344,40 @@ fn count_edge(starts: &mut [u32], s: Spans)
     count_stretch(starts, s.first);
 }
 
-// Counts, at each bucket, the edges that cover it.
+// Counts, at each bucket, the edges that cover it. They are taken as they stand, since a count does not go by the order.
 fn count_all(k: Rooms, x: AngularIndex, total: f64, floats: &[f64], n: usize, words: &mut [u32])
     requires { ⌜ Counting k (now floats) x total n (now words) ⌝ }
     ensures { λ _. ⌜ Counted k (now (floats .entry)) x total n (now (words .entry)) (now (words .exit)) ⌝ }
 {
-    let order = room::nearest_w(k);
     let starts = room::starts_w(k);
-    let mut r = n;
-    while 0 < r {
-        let i = words[order + (r - 1)];
-        let s = edge_spans(k, x, total, floats, i);
+    let mut i: usize = 0;
+    while i < n {
+        let s = edge_spans(k, x, total, floats, i as u32);
         count_edge(&mut words[starts..], s);
-        r -= 1;
+        i += 1;
     }
+}
+
+// Writes, at each bucket, where its block ends. The last end is the number of references.
+fn block_ends(
+    k: Rooms,
+    x: AngularIndex,
+    total: f64,
+    floats: &[f64],
+    n: usize,
+    words: &mut [u32],
+) -> usize
+    requires { ⌜ Endable k (now floats) x total n (now words) ⌝ }
+    ensures { λ r. ⌜ Ended k (now (floats .entry)) x total n (now (words .entry)) r (now (words .exit)) ⌝ }
+{
+    let count = wide(x.buckets);
+    let starts = room::starts_w(k);
+    let last = starts + count;
+    let end = last + 1;
+    lists::clear32(&mut words[starts..end]);
+    count_all(k, x, total, floats, n, &mut *words);
+    tables::sum_up(&mut words[starts..end], count);
+    wide(words[last])
 }
 
 // Puts id into the blocks of the buckets of a stretch, each in front of what its block holds. The blocks' starts stand in front, the references
@@ -402,49 +422,19 @@ fn put_all(k: Rooms, x: AngularIndex, total: f64, floats: &[f64], n: usize, word
     }
 }
 
-// Writes the starts and the references, which fit.
+// Writes the starts and, where they fit, the references. The references are not cleared before: each is written.
 fn fill(
     k: Rooms,
     x: AngularIndex,
     total: f64,
     floats: &[f64],
     n: usize,
-    refs: usize,
     words: &mut [u32],
-)
-    requires { ⌜ Fillable k (now floats) x total n refs (now words) ⌝ }
-    ensures { λ _. ⌜ Filled k (now (floats .entry)) x total n (now (words .entry)) (now (words .exit)) ⌝ }
+) -> Indexed
+    requires { ⌜ Fillable k (now floats) x total n (now words) ⌝ }
+    ensures { λ r. ⌜ Filled k (now (floats .entry)) x total n (now (words .entry)) r (now (words .exit)) ⌝ }
 {
-    let count = wide(x.buckets);
-    let starts = room::starts_w(k);
-    let starts_end = starts + count + 1;
-    let at = room::refs_w(k);
-    let end = at + refs;
-    lists::clear32(&mut words[starts..starts_end]);
-    lists::clear32(&mut words[at..end]);
-    count_all(k, x, total, floats, n, &mut *words);
-    tables::sum_up(&mut words[starts..starts_end], count);
-    put_all(k, x, total, floats, n, words);
-}
-
-// `AngularIndex::build` of the Rust: the n edges of the room by angle. `total` is the angle covered by the cone (TAU for a full circle). Where the
-// starts or the references pass their entries they are not written.
-pub fn build(k: Rooms, n: usize, total: f64, floats: &[f64], words: &mut [u32]) -> Indexed
-    requires { ⌜ Ready k (now floats) (now words) n ⌝ }
-    ensures { λ r. ⌜ Builds k (now (floats .entry)) (now (words .entry)) n total r (now (words .exit)) ⌝ }
-{
-    let at = room::nearest_w(k);
-    let end = at + n;
-    sorts::order_keys(floats, &mut *words, 0, n, at, room::events_w(k));
-    let x = head(n, total);
-    let refs = count_refs(k, x, total, floats, &words[at..end]);
-    if k.starts <= x.buckets {
-        return Indexed {
-            index: x,
-            refs,
-            over: true,
-        };
-    }
+    let refs = block_ends(k, x, total, floats, n, &mut *words);
     if wide(k.refs) < refs {
         return Indexed {
             index: x,
@@ -452,10 +442,48 @@ pub fn build(k: Rooms, n: usize, total: f64, floats: &[f64], words: &mut [u32]) 
             over: true,
         };
     }
-    fill(k, x, total, floats, n, refs, words);
+    put_all(k, x, total, floats, n, words);
     Indexed {
         index: x,
         refs,
         over: false,
     }
+}
+
+// `AngularIndex::build` of the Rust: the n edges of the room by angle. `total` is the angle covered by the cone (TAU for a full circle). Where the
+// starts pass their entries, neither they nor the references are written. Where the references do, they are not written, and the starts hold anything.
+pub fn build(k: Rooms, n: usize, total: f64, floats: &[f64], words: &mut [u32]) -> Indexed
+    requires { ⌜ Ready k (now floats) (now words) n ⌝ }
+    ensures { λ r. ⌜ Builds k (now (floats .entry)) (now (words .entry)) n total r (now (words .exit)) ⌝ }
+{
+    sorts::order_keys(
+        floats,
+        &mut *words,
+        0,
+        n,
+        room::nearest_w(k),
+        room::events_w(k),
+    );
+    let x = head(n, total);
+    if k.starts <= x.buckets {
+        return Indexed {
+            index: x,
+            refs: count_refs(k, x, total, floats, n),
+            over: true,
+        };
+    }
+    // So few edges have fewer than 2^32 references: each is at most twice in each of 65,536 buckets.
+    if n < 32768 {
+        return fill(k, x, total, floats, n, words);
+    }
+    // More are counted first, so that no start passes a `u32`.
+    let refs = count_refs(k, x, total, floats, n);
+    if wide(k.refs) < refs {
+        return Indexed {
+            index: x,
+            refs,
+            over: true,
+        };
+    }
+    fill(k, x, total, floats, n, words)
 }

@@ -212,11 +212,10 @@ fn root54(m: u64) -> u64
     ensures { λ r. ⌜ RootOf m r ⌝ }
 {
     let t = std::num::nearest_u64_to_f64(m);
-    let y0 = t * 0.000000004967053731282552 + 44739242.666666664;
+    let y0 = 34799612.03 + t * (0.000000007838155191 - t * 1.30827258726e-25);
     let y1 = 0.5 * (y0 + t / y0);
     let y2 = 0.5 * (y1 + t / y1);
-    let y3 = 0.5 * (y2 + t / y2);
-    let mut c = to_u64(y3);
+    let mut c = to_u64(y2);
     if c > 134217727 {
         c = 134217727;
     }

@@ -3,7 +3,7 @@
 use libc::STDIN_FILENO;
 use libc::STDOUT_FILENO;
 ghost use mathlib.Core.Path.{_≡_};
-ghost use Prim.Native.Nat.{_≤_, min};
+ghost use Prim.Native.Nat.{_≤_};
 ghost use lib.ListN.{length};
 
 // One byte more than a text may have.
@@ -11,16 +11,6 @@ const MOST: usize = 16385;
 
 // No answer has more bytes: `planner::answer` promises it (`longest` in its specs). So none is cut.
 const ROOM: usize = 77035;
-
-// The smaller of two.
-fn least(a: usize, b: usize) -> usize
-    ensures { λ r. ⌜ r ≡ min a b ⌝ }
-{
-    if a < b {
-        return a;
-    }
-    b
-}
 
 // Reads into the text until it is full or the input ends, and answers how many bytes it has. Where a read fails, all of it.
 // Each read but the last brings a byte or more, so there are at most as many reads as bytes.
@@ -39,7 +29,7 @@ fn read_text(text: &mut [u8]) -> usize
         if got == 0 {
             return n;
         }
-        n = least(n + io::count(got, &*text), most);
+        n = lists::least(n + io::count(got, &*text), most);
     }
     n
 }

@@ -13,7 +13,7 @@ unfoldable pub rooms : Rooms
 rooms = record { ids = 64; edges = 128; events = 256; corners = 128; samples = 512; starts = 257; refs = 1024; owners = 256; seen = 32 }
 
 -- so many floats and so many words are what the entries need
-pub floats-are : floatsFor rooms ≡ 2432
+pub floats-are : floatsFor rooms ≡ 3456
 unfolding rooms
 floats-are = refl
 
@@ -27,4 +27,4 @@ siteRoom = tables (replicate 1024 zeroF) (replicate 256 zeroF) (replicate 128 0)
 
 -- stamps, work room and output lists of an outline
 unfoldable pub workRoom : Lent
-workRoom = lent (replicate 64 0) 0 (replicate 2432 zeroF) (replicate 6881 0) (replicate 4096 zeroF) (replicate 64 0)
+workRoom = lent (replicate 64 0) 0 (replicate 3456 zeroF) (replicate 6881 0) (replicate 4096 zeroF) (replicate 64 0)

@@ -10,9 +10,8 @@ use site::Site;
 use visibility::Visibility;
 use wkt::Input;
 ghost use mathlib.Core.Path.{_≡_};
-ghost use mathlib.Core.List.{_++_};
-ghost use Prim.Native.Nat.{_-_, _*_, _≤_, _<_, min};
-ghost use lib.ListN.{length, take, replicate};
+ghost use Prim.Native.Nat.{_*_, _≤_, _<_, min};
+ghost use lib.ListN.{length};
 ghost use Rattle.site.specs.Tables.{tables, vertsOf};
 ghost use Rattle.wkt_print.specs.Decimal.{Printed};
 ghost use Rattle.wkt_print.specs.Lines.{pointsOf, polygonText};
@@ -38,16 +37,6 @@ fn rooms() -> Rooms
     }
 }
 
-// The smaller of two.
-fn least(a: usize, b: usize) -> usize
-    ensures { λ r. ⌜ r ≡ min a b ⌝ }
-{
-    if a < b {
-        return a;
-    }
-    b
-}
-
 // How many of `most` numbers n points have.
 fn numbers_of(n: usize, most: usize) -> usize
     ensures { λ r. ⌜ r ≡ min (2 * n) most ⌝ }
@@ -56,17 +45,6 @@ fn numbers_of(n: usize, most: usize) -> usize
         return 2 * n;
     }
     most
-}
-
-// Makes every byte from n on zero.
-fn clear_from8(s: &mut [u8], n: usize)
-    ensures { λ _. ⌜ now (s .exit) ≡ take n (now (s .entry)) ++ replicate (length (now (s .entry)) - n) 0 ⌝ }
-{
-    let mut i = n;
-    while i < s.len() {
-        s[i] = 0;
-        i += 1;
-    }
 }
 
 // ---- printing
@@ -107,7 +85,7 @@ fn print_seen(
     ensures { λ r. ⌜ Printed (now (out .entry)) 0 (seenText n m (now (points .entry)) (now (polygons .entry)) (now (outline .entry)) (now (visible .entry))) (now (out .exit)) r ⌝ }
 {
     let e = numbers_of(n, outline.len());
-    let k = least(m, visible.len());
+    let k = lists::least(m, visible.len());
     let at = wkt_print::print_polygon(out, 0, &outline[0..e], PLACES);
     print_visible(points, polygons, &visible[0..k], out, at)
 }
@@ -133,7 +111,7 @@ fn print_view(
 {
     let mut marks = [0u32; 64];
     let mut epoch: u32 = 0;
-    let mut floats = [0.0; 2432];
+    let mut floats = [0.0; 3456];
     let mut words = [0u32; 6881];
     let mut outline = [0.0; 4096];
     let mut visible = [0u32; 64];
@@ -238,6 +216,6 @@ pub fn answer(text: &[u8], out: &mut [u8]) -> usize
     ensures { λ r. ⌜ Answers (now (text .entry)) (now (out .entry)) r (now (out .exit)) ⌝ }
 {
     let r = print_answer(text, &mut *out);
-    clear_from8(out, r);
+    lists::clear_from8(out, r);
     r
 }

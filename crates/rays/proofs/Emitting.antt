@@ -10,7 +10,7 @@ use lib.ListN.{length, length-append}
 use lib.Ieee.{Float}
 use Rattle.lists.specs.Lists.{bit, sumTo, joined}
 use Rattle.lists.proofs.Counting.{bit-le}
-use Rattle.lists.proofs.Only.{only-refl, only-trans, only-part, stored-more}
+use Rattle.lists.proofs.Only.{only-refl, only-trans, only-wider, only-part, stored-more}
 use Rattle.cone.specs.declared.View.{View}
 use Rattle.room.specs.declared.Rooms.{Rooms}
 use Rattle.room.specs.declared.Sample.{Sample}
@@ -46,7 +46,7 @@ module _ (k : Rooms) (n : ℕ) (s : Sample) (f : List Float) (w : List ℕ) wher
       count = omega (arith, h .count, length-append l (s ∷ []));
       list = λ e. stored-more (put .entry) g ∙ ap (λ (q : List Sample). q ++ (s ∷ [])) (h .list (omega arith));
     };
-    floats = put .floats;
+    floats = only-wider (samplesF k) (floatsFor k) (omega arith) (omega arith) (put .floats);
     words = put .words;
   }
 

@@ -24,12 +24,14 @@ use Rattle.sorts.specs.By.{keyOrder, keyOrderIf, inOrder}
 use Rattle.sorts.specs.Fronts.{Ordered, KeysFit}
 use Rattle.sorts.proofs.Keyed.{read-order-if, length-order, order-below}
 use Rattle.sorts.proofs.Stable.{map-sort}
+use Rattle.num.specs.Ops.{_⊕_}
+use Rattle.geom.specs.Vec.{fromAngleOf}
 use Rattle.cone.specs.declared.View.{View}
 use Rattle.room.specs.declared.Rooms.{Rooms}
 use Rattle.room.specs.declared.Sample.{Sample}
 use Rattle.room.specs.Layout.{samplesF, floatsFor, samplesW, orderW, seenW}
-use Rattle.room.specs.Records.{sampleAt, samplesIn}
-use Rattle.room.proofs.Kept.{samples-kept}
+use Rattle.room.specs.Records.{sampleAt, samplesIn, Directed}
+use Rattle.room.proofs.Kept.{sample-kept, samples-kept}
 use Rattle.index.specs.declared.AngularIndex.{AngularIndex}
 use Rattle.index.specs.Angular.{Index}
 use Rattle.index.specs.Stands.{indexIn}
@@ -120,6 +122,7 @@ module _ (k : Rooms) (view : View) (x : AngularIndex) (events : ℕ) (f₀ : Lis
     over = sym (lt-ltb (k .samples) n h);
     rays = λ q. absurd (let z : _≡_ {A = ℕ} 0 1 = cc in omega arith);
     below = λ q. absurd (let z : _≡_ {A = ℕ} 0 1 = cc in omega arith);
+    dirs = λ q. absurd (let z : _≡_ {A = ℕ} 0 1 = cc in omega arith);
     floats = e .floats;
     words = only-wider (samplesW k) (seenW k) (omega arith) (omega arith) (e .words);
   }
@@ -152,17 +155,22 @@ module _ (k : Rooms) (view : View) (x : AngularIndex) (events : ℕ) (f₀ : Lis
           let o' : Only (orderW k) (seenW k) w₂ w₃ = subst (λ (q : ℕ). Only q (seenW k) w₂ w₃) hc (subst (λ (q : ℕ). Only c q w₂ w₃) hz (o .only)) in
           let has : Has w₃ c (keyOrderIf (part (samplesF k) (samplesF k + n) f₂) n) = subst (λ (q : ℕ). Has w₃ c (keyOrderIf (part q (q + n) f₂) n)) hat (o .list) in
           let fits : floatsFor k ≤ length f₂ = omega (arith, pre .fit .floats-fit, e .floats .long, cs .floats .long) in
-          let kept : samplesIn k f₂ w₃ n ≡ samplesIn k f₂ w₂ n = samples-kept k f₂ f₂ w₂ w₃ n few refl (only-part (samplesW k) (orderW k) o' (inl (omega arith))) in
+          let stay : part (samplesW k) (orderW k) w₃ ≡ part (samplesW k) (orderW k) w₂ = only-part (samplesW k) (orderW k) o' (inl (omega arith)) in
+          let kept : samplesIn k f₂ w₃ n ≡ samplesIn k f₂ w₂ n = samples-kept k f₂ f₂ w₂ w₃ n few refl stay in
           let order = keyOrderIf (part (samplesF k) (samplesF k + n) f₂) n in
           let long : length order ≡ n = length-order-if (part (samplesF k) (samplesF k + n) f₂) n in
-          let place : (t : ℕ) → t < n → getD w₃ (orderW k + t) 0 < k .samples = λ t l.
+          let place : (t : ℕ) → t < n → getD w₃ (orderW k + t) 0 < n = λ t l.
           let at : getD w₃ (orderW k + t) 0 ≡ getD order t 0 = ap (λ (q : ℕ). getD w₃ (q + t) 0) (sym hc) ∙ getD-has w₃ c order t 0 has (omega arith) in
           let b : getD order t 0 < n = all-at (λ i. i < n) order t 0 (order-if-below (part (samplesF k) (samplesF k + n) f₂) n) (omega arith) in
           omega arith in
+          let dirs : Directed k (view .start) f₂ w₃ n = λ t l.
+          let j = getD w₃ (orderW k + t) 0 in
+          cs .dirs j (place t l) ∙ ap (λ (q : Sample). fromAngleOf (view .start ⊕ q .angle)) (sym (sample-kept k f₂ f₂ w₂ w₃ j (omega (arith, place t l)) refl stay)) in
           record {
             samples = sampled .count;
             over = sym (le-ltb (k .samples) n few);
-            below = λ _. place;
+            below = λ _ t l. omega (arith, place t l);
+            dirs = λ _. dirs;
             rays = λ _. ordered-is k f₂ w₃ n fits few c hc has ∙ ap orderedOf (kept ∙ answers) ∙ order-cast view (indexIn k f₀ w₀ x) (samplesOf view (turnAt k f₀ w₀) events);
             floats = only-trans (e .floats) (only-wider (samplesF k) (floatsFor k) (omega arith) (omega arith) (cs .floats));
             words = only-trans (only-wider (samplesW k) (seenW k) (omega arith) (omega arith) (only-trans (e .words) (cs .words))) (only-wider (samplesW k) (seenW k) (omega arith) (omega arith) o');

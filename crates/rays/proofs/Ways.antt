@@ -21,7 +21,8 @@ use Rattle.room.specs.Records.{mergedAt}
 use Rattle.index.specs.Angular.{Index}
 use Rattle.index.specs.Casting.{castOf}
 use Rattle.rays.specs.declared.Aim.{Aim}
-use Rattle.rays.specs.Samples.{angleEps, stepOf, wrapOf, aimBy, aimOf, Turn, sampleOf, rayOf, raysOf, hitOf}
+use Rattle.room.specs.Constants.{angleEps}
+use Rattle.rays.specs.Samples.{stepOf, wrapOf, aimBy, aimOf, Turn, sampleOf, rayOf, raysOf, hitOf}
 use Rattle.rays.specs.Stands.{turnAt}
 
 module _ (view : View) (event : Float) (offset : ℕ) {s : Float} (hs : s ≡ stepOf offset) where

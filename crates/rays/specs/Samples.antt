@@ -1,12 +1,11 @@
 -- The rays of an outline: one on each side of every event and an exact one at a sector's side, in order of angle, each cast in turn
 -- (`visibility.rs`, lines 376 to 415). Document 01: "Each sample holds its angle, event, offset and that answer"; samples are cast in turn.
 -- An offset is 0 before the event, 1 at it and 2 after it: the Rust's -1, 0 and 1. Definitions only.
-use mathlib.Core.Path.{_≡_, refl}
 use mathlib.Core.Bool.{Bool, true, false, cond}
 use mathlib.Core.List.{List, [], _++_, map}
-use Prim.Native.Nat.{ℕ, _^_}
+use Prim.Native.Nat.{ℕ}
 use lib.Dec.{eqb}
-use lib.Ieee.{Float, binary64, ofBits, round, neg, lt, le}
+use lib.Ieee.{Float, neg, lt, le}
 use Rattle.num.specs.Ops.{_⊕_, _⊖_, _⊗_, zeroF, oneF}
 use Rattle.num.specs.Order.{before}
 use Rattle.lists.specs.Lists.{consIf, joined}
@@ -19,18 +18,11 @@ use Rattle.site.specs.declared.Cast.the-variants.{Miss}
 use Rattle.sorts.specs.Sort.{sort}
 use Rattle.sorts.specs.By.{inOrder}
 use Rattle.room.specs.declared.Sample.{Sample}
+use Rattle.room.specs.Constants.{angleEps}
 use Rattle.room.specs.Records.{withHit}
 use Rattle.index.specs.Angular.{Index}
 use Rattle.index.specs.Casting.{castOf}
 use Rattle.rays.specs.declared.Aim.{Aim}
-
--- 1e-8: `ANGLE_EPS`, how far off its event a ray is
-abbrev pub angleEps : Float
-angleEps = ofBits binary64 0x3e45_798e_e230_8c3a
-
-pub angle-eps-is : angleEps ≡ round binary64 false 1 (10 ^ 8)
-unfolding ofBits round
-angle-eps-is = refl
 
 -- `f64::from(offset)`
 unfoldable pub stepOf : ℕ → Float

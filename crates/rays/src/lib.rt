@@ -4,21 +4,19 @@ use cone::View;
 use geom::Vec2;
 use index::AngularIndex;
 use lists::wide;
+use room::ANGLE_EPS;
 use room::Rooms;
 use room::Sample;
 use site::Cast;
 ghost use mathlib.Core.Path.{_≡_};
 ghost use mathlib.Core.List.{[], _∷_};
 ghost use Prim.Native.Nat.{_+_};
-ghost use Rattle.room.specs.Records.{sampleAt};
-ghost use Rattle.index.specs.Stands.{indexIn};
-ghost use Rattle.rays.specs.Samples.{stepOf, wrapOf, aimOf, rayOf, raysOf, samplesOf, hitOf};
-ghost use Rattle.rays.specs.Stands.{turnAt, Roomy, Emits, Eventful, Castable, Casts, Sampling, Sampled};
+ghost use lib.ListN.{length};
+ghost use Rattle.room.specs.Layout.{Place};
+ghost use Rattle.rays.specs.Samples.{stepOf, wrapOf, aimOf, rayOf, raysOf, samplesOf};
+ghost use Rattle.rays.specs.Stands.{turnAt, Roomy, Emits, Eventful, Answer, Castable, Casts, Sampling, Sampled};
 
 const TAU: f64 = 6.283185307179586;
-
-// How far off its event a ray is.
-const ANGLE_EPS: f64 = 1e-8;
 
 // The angle of a ray, and whether it lies in the view.
 struct Aim {
@@ -155,22 +153,17 @@ fn sample_events(k: Rooms, view: View, events: u32, floats: &mut [f64], words: &
 
 // ---- their answers
 
-// What the ray of the sample i hits.
-fn cast_one(k: Rooms, view: View, x: AngularIndex, floats: &[f64], words: &[u32], i: u32) -> Cast
-    ensures { λ r. ⌜ r ≡ hitOf view (indexIn k (now (floats .entry)) (now (words .entry)) x) (sampleAt k (now (floats .entry)) (now (words .entry)) i .angle) ⌝ }
+// Casts the ray of the sample i. Its direction is kept beside the answer: the sample's point on the outline goes by it.
+fn cast_one(k: Rooms, view: View, x: AngularIndex, floats: &mut [f64], words: &mut [u32], i: u32)
+    requires { ⌜ Place k (length (now floats)) (length (now words)) (k .samples) i ⌝ }
+    ensures { λ _. ⌜ Answer k view x i (now (floats .entry)) (now (words .entry)) (now (floats .exit)) (now (words .exit)) ⌝ }
 {
-    let s = room::sample_at(k, floats, words, i);
+    let s = room::sample_at(k, &*floats, &*words, i);
     let angle = s.angle;
-    index::cast(
-        k,
-        x,
-        floats,
-        words,
-        view.o,
-        angle,
-        Vec2::from_angle(view.start + angle),
-        view.r,
-    )
+    let dir = Vec2::from_angle(view.start + angle);
+    let h = index::cast(k, x, &*floats, &*words, view.o, angle, dir, view.r);
+    room::put_hit(k, &mut *floats, words, i, h);
+    room::put_dir(k, floats, i, dir);
 }
 
 // Casts the first n samples in turn.
@@ -180,8 +173,7 @@ fn cast_all(k: Rooms, view: View, x: AngularIndex, n: u32, floats: &mut [f64], w
 {
     let mut i: u32 = 0;
     while i < n {
-        let h = cast_one(k, view, x, &*floats, &*words, i);
-        room::put_hit(k, &mut *floats, &mut *words, i, h);
+        cast_one(k, view, x, &mut *floats, &mut *words, i);
         i += 1;
     }
 }

@@ -1,5 +1,5 @@
--- Each way through `crossing`, `look` and `turn_at`, over plain values. Assumes nothing.
-use mathlib.Core.Path.{_≡_, sym}
+-- A ray's point by its direction and by its angle; each way through `crossing`, `look` and `turn_at`, over plain values. Assumes nothing.
+use mathlib.Core.Path.{_≡_, refl, sym}
 use mathlib.Core.Bool.{Bool, true, false, _&&_}
 use Prim.Native.Nat.{ℕ}
 use lib.Ieee.{Float, lt}
@@ -9,17 +9,23 @@ use Rattle.geom.specs.declared.Meeting.{Meeting}
 use Rattle.geom.specs.declared.Meeting.the-variants.{At, Nowhere}
 use Rattle.num.specs.Ops.{_⊕_, _⊖_}
 use Rattle.geom.specs.Constants.{tau}
-use Rattle.geom.specs.Vec.{subOf, angleOf, distanceOf}
+use Rattle.geom.specs.Vec.{subOf, angleOf, distanceOf, fromAngleOf}
 use Rattle.site.specs.declared.Cast.{Cast}
 use Rattle.site.specs.declared.Cast.the-variants.{Hit, Miss}
 use Rattle.site.specs.declared.Ends.{Ends}
 use Rattle.site.specs.Tables.{edgeOf}
 use Rattle.geom.specs.Segment.{normalOf, segmentIntersectionOf}
 use Rattle.cone.specs.declared.View.{View}
+use Rattle.cone.specs.Cone.{rimOf}
 use Rattle.refining.specs.declared.End.{End}
 use Rattle.refining.specs.declared.Turn.{Turn}
 use Rattle.refining.specs.declared.Turn.the-variants.{Stop, Open, Hidden}
-use Rattle.refining.specs.Refine.{pointOf, Env, crossingOf, hides, lookOf, turnOf}
+use Rattle.refining.specs.Refine.{alongOf, pointOf, Env, crossingOf, hides, lookOf, turnOf}
+
+-- the point along the direction of an angle is the point at that angle
+pub along-is : (view : View) (angle : Float) (hit : Cast) → alongOf view (fromAngleOf (view .start ⊕ angle)) hit ≡ pointOf view angle hit
+unfolding alongOf pointOf rimOf
+along-is view angle hit = refl
 
 module _ (cast : Float → Cast) (view : View) (a b : End) (p : Vec2) (angle : Float) {q : Cast} (hq : q ≡ cast angle) where
   pub look-miss : q ≡ Miss → Open p ≡ lookOf cast view a b p angle

@@ -12,7 +12,7 @@ use Rattle.geom.specs.declared.Vec2.{Vec2}
 use Rattle.geom.specs.declared.Meeting.{Meeting}
 use Rattle.geom.specs.declared.Meeting.the-variants.{At, Nowhere}
 use Rattle.geom.specs.Constants.{tau, nano}
-use Rattle.geom.specs.Vec.{subOf, distanceOf, angleOf, fromAngleOf}
+use Rattle.geom.specs.Vec.{addOf, subOf, mulOf, distanceOf, angleOf, fromAngleOf}
 use Rattle.geom.specs.Segment.{normalOf, segmentIntersectionOf}
 use Rattle.site.specs.declared.Cast.{Cast}
 use Rattle.site.specs.declared.Cast.the-variants.{Hit, Miss}
@@ -36,7 +36,11 @@ abbrev pub reachOf : Float → Cast → Float
 reachOf r (Hit t e) = t
 reachOf r Miss = r
 
--- where it ends
+-- where it ends, in a direction
+unfoldable pub alongOf : View → Vec2 → Cast → Vec2
+alongOf view dir hit = addOf (view .o) (mulOf dir (reachOf (view .r) hit))
+
+-- where it ends, at an angle: the point along that angle's direction (`along-is`, proofs/Ways.antt)
 unfoldable pub pointOf : View → Float → Cast → Vec2
 pointOf view angle hit = rimOf (view .o) (reachOf (view .r) hit) (view .start ⊕ angle)
 

@@ -13,7 +13,7 @@ use site::Cast;
 ghost use mathlib.Core.Path.{_≡_};
 ghost use Prim.Native.Nat.{_+_, _-_, _^_, _<_};
 ghost use lib.ListN.{length};
-ghost use Rattle.refining.specs.Refine.{reachOf, pointOf, castIn, crossingOf, hides, env, lookOf, turnOf, countedOf, runAt, refineOf, Ready, Done};
+ghost use Rattle.refining.specs.Refine.{reachOf, alongOf, pointOf, castIn, crossingOf, hides, env, lookOf, turnOf, countedOf, runAt, refineOf, Ready, Done};
 
 const TAU: f64 = 6.283185307179586;
 
@@ -40,12 +40,19 @@ pub fn reach(r: f64, hit: Cast) -> f64
     }
 }
 
+// Where the ray in a direction ends.
+pub fn point_along(view: View, dir: Vec2, hit: Cast) -> Vec2
+    ensures { λ r. ⌜ r ≡ alongOf view dir hit ⌝ }
+{
+    let o = view.o;
+    o.add(dir.mul(reach(view.r, hit)))
+}
+
 // The Rust's `Sweep::point`: where the ray at an angle ends.
 pub fn point(view: View, angle: f64, hit: Cast) -> Vec2
     ensures { λ r. ⌜ r ≡ pointOf view angle hit ⌝ }
 {
-    let o = view.o;
-    cone::rim(o, reach(view.r, hit), view.start + angle)
+    point_along(view, Vec2::from_angle(view.start + angle), hit)
 }
 
 // The Rust's `Sweep::cast`.

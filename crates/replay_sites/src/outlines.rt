@@ -30,7 +30,7 @@ fn drawn(
     let allowed = entries();
     let mut marks = [0u32; 16];
     let mut epoch: u32 = 0;
-    let mut floats = [0.0; 2260];
+    let mut floats = [0.0; 3460];
     let mut words = [0u32; 8743];
     exports_view::bf_compute_visibility(
         head,

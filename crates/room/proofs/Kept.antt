@@ -13,8 +13,8 @@ use Rattle.lists.specs.Parts.{part}
 use Rattle.lists.proofs.Only.{part-getD}
 use Rattle.lists.proofs.Joined.{listed-ext}
 use Rattle.room.specs.declared.Rooms.{Rooms}
-use Rattle.room.specs.Layout.{edgesF, eventsF, mergedF, samplesF, distancesF, floatsFor, edgesW, nearestW, eventsW, turnsW, mergedW, cornersW, samplesW, orderW, wordsFor, Fit, isShort}
-use Rattle.room.specs.Records.{edgeAt, eventAt, mergedAt, sampleAt, edgesIn, eventsIn, mergedIn, samplesIn}
+use Rattle.room.specs.Layout.{edgesF, eventsF, mergedF, samplesF, distancesF, dirsF, floatsFor, edgesW, nearestW, eventsW, turnsW, mergedW, cornersW, samplesW, orderW, wordsFor, Fit, isShort}
+use Rattle.room.specs.Records.{edgeAt, eventAt, mergedAt, sampleAt, dirAt, edgesIn, eventsIn, mergedIn, samplesIn}
 
 -- from f and w to f' and w'
 module _ (k : Rooms) (f f' : List Float) (w w' : List ℕ) where
@@ -51,17 +51,24 @@ module _ (k : Rooms) (f f' : List Float) (w w' : List ℕ) where
       let d : getD w' (mergedW k + 3 * i + 2) 0 ≡ getD w (mergedW k + 3 * i + 2) 0 = part-getD (mergedW k) (cornersW k) w w' _ 0 q (omega arith) (omega arith) in
       rw (a, b, c, d)
 
-  pub sample-kept : (i : ℕ) → i < k .samples → part (samplesF k) (floatsFor k) f' ≡ part (samplesF k) (floatsFor k) f → part (samplesW k) (orderW k) w' ≡ part (samplesW k) (orderW k) w
+  pub sample-kept : (i : ℕ) → i < k .samples → part (samplesF k) (dirsF k) f' ≡ part (samplesF k) (dirsF k) f → part (samplesW k) (orderW k) w' ≡ part (samplesW k) (orderW k) w
       → sampleAt k f' w' i ≡ sampleAt k f w i
   unfolding sampleAt
   sample-kept i h p q =
-      let a : getD f' (samplesF k + i) nan ≡ getD f (samplesF k + i) nan = part-getD (samplesF k) (floatsFor k) f f' _ nan p (omega arith) (omega arith) in
-      let t : getD f' (distancesF k + i) nan ≡ getD f (distancesF k + i) nan = part-getD (samplesF k) (floatsFor k) f f' _ nan p (omega arith) (omega arith) in
+      let a : getD f' (samplesF k + i) nan ≡ getD f (samplesF k + i) nan = part-getD (samplesF k) (dirsF k) f f' _ nan p (omega arith) (omega arith) in
+      let t : getD f' (distancesF k + i) nan ≡ getD f (distancesF k + i) nan = part-getD (samplesF k) (dirsF k) f f' _ nan p (omega arith) (omega arith) in
       let b : getD w' (samplesW k + 4 * i) 0 ≡ getD w (samplesW k + 4 * i) 0 = part-getD (samplesW k) (orderW k) w w' _ 0 q (omega arith) (omega arith) in
       let c : getD w' (samplesW k + 4 * i + 1) 0 ≡ getD w (samplesW k + 4 * i + 1) 0 = part-getD (samplesW k) (orderW k) w w' _ 0 q (omega arith) (omega arith) in
       let d : getD w' (samplesW k + 4 * i + 2) 0 ≡ getD w (samplesW k + 4 * i + 2) 0 = part-getD (samplesW k) (orderW k) w w' _ 0 q (omega arith) (omega arith) in
       let u : getD w' (samplesW k + 4 * i + 3) 0 ≡ getD w (samplesW k + 4 * i + 3) 0 = part-getD (samplesW k) (orderW k) w w' _ 0 q (omega arith) (omega arith) in
       rw (a, t, b, c, d, u)
+
+  pub dir-kept : (i : ℕ) → i < k .samples → part (dirsF k) (floatsFor k) f' ≡ part (dirsF k) (floatsFor k) f → dirAt k f' i ≡ dirAt k f i
+  unfolding dirAt
+  dir-kept i h p =
+      let a : getD f' (dirsF k + 2 * i) nan ≡ getD f (dirsF k + 2 * i) nan = part-getD (dirsF k) (floatsFor k) f f' _ nan p (omega arith) (omega arith) in
+      let b : getD f' (dirsF k + 2 * i + 1) nan ≡ getD f (dirsF k + 2 * i + 1) nan = part-getD (dirsF k) (floatsFor k) f f' _ nan p (omega arith) (omega arith) in
+      rw (a, b)
 
   -- ---- the first n of each list
 
@@ -77,7 +84,7 @@ module _ (k : Rooms) (f f' : List Float) (w w' : List ℕ) where
       → mergedIn k f' w' n ≡ mergedIn k f w n
   mergeds-kept n h p q = listed-ext (mergedAt k f' w') (mergedAt k f w) n (λ i l. merged-kept i (omega arith) p q)
 
-  pub samples-kept : (n : ℕ) → n ≤ k .samples → part (samplesF k) (floatsFor k) f' ≡ part (samplesF k) (floatsFor k) f → part (samplesW k) (orderW k) w' ≡ part (samplesW k) (orderW k) w
+  pub samples-kept : (n : ℕ) → n ≤ k .samples → part (samplesF k) (dirsF k) f' ≡ part (samplesF k) (dirsF k) f → part (samplesW k) (orderW k) w' ≡ part (samplesW k) (orderW k) w
       → samplesIn k f' w' n ≡ samplesIn k f w n
   samples-kept n h p q = listed-ext (sampleAt k f' w') (sampleAt k f w) n (λ i l. sample-kept i (omega arith) p q)
 

@@ -14,6 +14,7 @@ use Rattle.lists.specs.Lists.{bit}
 use Rattle.lists.specs.Parts.{part}
 use Rattle.lists.proofs.Cases.{lt-or-le}
 use Rattle.lists.proofs.Only.{Laid, laid-put, laid-set, only-trans, only-wider, only-getD}
+use Rattle.geom.specs.declared.Vec2.{Vec2}
 use Rattle.site.specs.declared.Cast.{Cast}
 use Rattle.site.specs.declared.Cast.the-variants.{Hit, Miss}
 use Rattle.room.specs.declared.Rooms.{Rooms}
@@ -21,8 +22,8 @@ use Rattle.room.specs.declared.LocalEdge.{LocalEdge}
 use Rattle.room.specs.declared.Event.{Event}
 use Rattle.room.specs.declared.Merged.{Merged}
 use Rattle.room.specs.declared.Sample.{Sample}
-use Rattle.room.specs.Layout.{edgesF, eventsF, mergedF, samplesF, distancesF, floatsFor, edgesW, nearestW, eventsW, turnsW, mergedW, cornersW, samplesW, orderW}
-use Rattle.room.specs.Records.{sixOf, tagOf, distanceOf, numberOf, castOf, edgeAt, eventAt, mergedAt, sampleAt, withHit, EdgePut, EventPut, MergedPut, SamplePut, HitPut}
+use Rattle.room.specs.Layout.{edgesF, eventsF, mergedF, samplesF, distancesF, dirsF, floatsFor, edgesW, nearestW, eventsW, turnsW, mergedW, cornersW, samplesW, orderW}
+use Rattle.room.specs.Records.{sixOf, tagOf, distanceOf, numberOf, castOf, edgeAt, eventAt, mergedAt, sampleAt, dirAt, withHit, EdgePut, EventPut, MergedPut, SamplePut, HitPut, DirPut}
 
 -- a number and another one: below it or past it
 apart : (j i : ℕ) → (j ≡ i → ⊥) → (j < i) ⊎ (i < j)
@@ -167,7 +168,7 @@ module _ (k : Rooms) (i : ℕ) (f : List Float) (w : List ℕ) where
     sample-put =
         record {
           entry = record { here = sample-here; others = λ j g n. sample-others j g (apart j i n) };
-          floats = only-trans (only-wider (samplesF k) (floatsFor k) (omega arith) (omega arith) (p .only)) (only-wider (samplesF k) (floatsFor k) (omega arith) (omega arith) (q .only));
+          floats = only-trans (only-wider (samplesF k) (dirsF k) (omega arith) (omega arith) (p .only)) (only-wider (samplesF k) (dirsF k) (omega arith) (omega arith) (q .only));
           words = only-wider (samplesW k) (orderW k) (omega arith) (omega arith) (r .only);
         }
 
@@ -200,6 +201,29 @@ module _ (k : Rooms) (i : ℕ) (f : List Float) (w : List ℕ) where
     hit-put =
         record {
           entry = record { here = hit-here; others = λ j g n. hit-others j g (apart j i n) };
-          floats = only-wider (distancesF k) (floatsFor k) (omega arith) (omega arith) (p .only);
+          floats = only-wider (distancesF k) (dirsF k) (omega arith) (omega arith) (p .only);
           words = only-wider (samplesW k) (orderW k) (omega arith) (omega arith) (q .only);
         }
+
+-- ---- a direction of a sample, of floats alone
+module _ (k : Rooms) (i : ℕ) (f : List Float) (d : Vec2) (f' : List Float) (h : i < k .samples) (p : Laid (dirsF k + 2 * i) 2 (d .x ∷ d .y ∷ []) f f') where
+  dir-here : dirAt k f' i ≡ d
+  unfolding dirAt
+  dir-here =
+      let a : getD f' (dirsF k + 2 * i) nan ≡ d .x = p .at 0 (dirsF k + 2 * i) nan (omega arith) (omega arith) in
+      let b : getD f' (dirsF k + 2 * i + 1) nan ≡ d .y = p .at 1 (dirsF k + 2 * i + 1) nan (omega arith) (omega arith) in
+      rw (a, b)
+
+  dir-others : (j : ℕ) → j < k .samples → (j < i) ⊎ (i < j) → dirAt k f' j ≡ dirAt k f j
+  unfolding dirAt
+  dir-others j g n =
+      let a : getD f' (dirsF k + 2 * j) nan ≡ getD f (dirsF k + 2 * j) nan = only-getD (dirsF k + 2 * j) nan (p .only) (⊎-elim (λ l. inl (omega arith)) (λ l. inr (omega arith)) n) in
+      let b : getD f' (dirsF k + 2 * j + 1) nan ≡ getD f (dirsF k + 2 * j + 1) nan = only-getD (dirsF k + 2 * j + 1) nan (p .only) (⊎-elim (λ l. inl (omega arith)) (λ l. inr (omega arith)) n) in
+      rw (a, b)
+
+  pub dir-put : DirPut k i d f f'
+  dir-put =
+      record {
+        entry = record { here = dir-here; others = λ j g n. dir-others j g (apart j i n) };
+        floats = only-wider (dirsF k) (floatsFor k) (omega arith) (omega arith) (p .only);
+      }

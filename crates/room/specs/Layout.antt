@@ -1,7 +1,7 @@
 -- Where each list of an outline's work stands in the two lent slices, by the entries that the caller states.
 -- Document 01, "Refusal numbers": "An entry takes a fixed count of numbers, at most 16, written in docs/, and the room needed is the sum of these
 -- products." An id takes 1 word; an edge 7 floats and 3 words; an event 2 floats and 7 words; a kept-aside corner 2 words; a bucket start 1;
--- an angular reference 1; a sample 2 floats and 6 words; a corner seen 1 word; an owner nothing, since the owners are only counted.
+-- an angular reference 1; a sample 4 floats and 6 words; a corner seen 1 word; an owner nothing, since the owners are only counted.
 -- Definitions only.
 use mathlib.Core.Bool.{Bool, _||_}
 use Prim.Native.Nat.{ℕ, _+_, _*_, _≤_, _<_}
@@ -29,9 +29,13 @@ samplesF k = mergedF k + k .events
 abbrev pub distancesF : Rooms → ℕ
 distancesF k = samplesF k + k .samples
 
+-- the samples' directions, two for each
+abbrev pub dirsF : Rooms → ℕ
+dirsF k = distancesF k + k .samples
+
 -- all of them
 abbrev pub floatsFor : Rooms → ℕ
-floatsFor k = distancesF k + k .samples
+floatsFor k = dirsF k + 2 * k .samples
 
 -- ---- the words. The ids stand from 0 on
 -- the edges' numbers in the site

@@ -1,3 +1,4 @@
 -- What the contracts of `room` say.
+pub mod Constants
 pub mod Layout
 pub mod Records

@@ -1,16 +1,18 @@
 -- What stands in the room: the records of `visibility.rs` (`Event`, `Sample`, `LocalEdge`, lines 213 to 245), each read from its numbers, and
 -- what a write of one does. A bool is 1 or 0. Document 01: "Each sample holds its angle, event, offset and that answer".
 -- Definitions only.
+use mathlib.Core.Path.{_≡_}
 use mathlib.Core.Bool.{cond}
 use mathlib.Core.List.{List, [], _∷_}
-use Prim.Native.Nat.{ℕ, _+_, _*_}
+use Prim.Native.Nat.{ℕ, _+_, _*_, _<_}
 use lib.ListN.{getD}
 use lib.Dec.{eqb}
 use lib.Ieee.{Float, nan}
-use Rattle.num.specs.Ops.{zeroF}
+use Rattle.num.specs.Ops.{_⊕_, zeroF}
 use Rattle.lists.specs.Lists.{listed}
 use Rattle.lists.specs.Parts.{Only, Stored}
-use Rattle.geom.specs.Vec.{vec}
+use Rattle.geom.specs.declared.Vec2.{Vec2}
+use Rattle.geom.specs.Vec.{vec, fromAngleOf}
 use Rattle.site.specs.declared.Cast.{Cast}
 use Rattle.site.specs.declared.Cast.the-variants.{Hit, Miss}
 use Rattle.room.specs.declared.Rooms.{Rooms}
@@ -18,7 +20,7 @@ use Rattle.room.specs.declared.LocalEdge.{LocalEdge}
 use Rattle.room.specs.declared.Event.{Event}
 use Rattle.room.specs.declared.Merged.{Merged}
 use Rattle.room.specs.declared.Sample.{Sample}
-use Rattle.room.specs.Layout.{edgesF, eventsF, mergedF, samplesF, distancesF, floatsFor, edgesW, nearestW, eventsW, turnsW, mergedW, cornersW, samplesW, orderW}
+use Rattle.room.specs.Layout.{edgesF, eventsF, mergedF, samplesF, distancesF, dirsF, floatsFor, edgesW, nearestW, eventsW, turnsW, mergedW, cornersW, samplesW, orderW}
 
 -- ---- an answer of a cast as three numbers: 1, the distance and the edge, or zeros for a miss
 abbrev pub tagOf : Cast → ℕ
@@ -78,6 +80,19 @@ sampleAt k floats words i = record {
   hit = castOf (getD words (samplesW k + 4 * i + 2) 0) (getD floats (distancesF k + i) nan) (getD words (samplesW k + 4 * i + 3) 0);
 }
 
+-- the direction of the sample i
+unfoldable pub dirAt : Rooms → List Float → ℕ → Vec2
+dirAt k floats i = vec (getD floats (dirsF k + 2 * i) nan) (getD floats (dirsF k + 2 * i + 1) nan)
+
+-- the sample t in order of angle
+abbrev pub rayAt : Rooms → List Float → List ℕ → ℕ → Sample
+rayAt k floats words t = sampleAt k floats words (getD words (orderW k + t) 0)
+
+-- the n samples in order of angle have their directions in the room: those of their angles, which are counted from `start`
+abbrev pub Directed : Rooms → Float → List Float → List ℕ → ℕ → Type 0
+Directed k start floats words n =
+    (t : ℕ) → t < n → dirAt k floats (getD words (orderW k + t) 0) ≡ fromAngleOf (start ⊕ rayAt k floats words t .angle)
+
 -- ---- the lists: the first n of each
 abbrev pub edgesIn : Rooms → List Float → List ℕ → ℕ → List LocalEdge
 edgesIn k floats words n = listed (edgeAt k floats words) n
@@ -108,11 +123,16 @@ abbrev pub MergedPut : Rooms → ℕ → Merged → List Float → List ℕ → 
 MergedPut k i e f w f' w' = Put (mergedAt k f w) (mergedAt k f' w') (k .events) i e (mergedF k) (samplesF k) f f' (mergedW k) (cornersW k) w w'
 
 abbrev pub SamplePut : Rooms → ℕ → Sample → List Float → List ℕ → List Float → List ℕ → Type 0
-SamplePut k i s f w f' w' = Put (sampleAt k f w) (sampleAt k f' w') (k .samples) i s (samplesF k) (floatsFor k) f f' (samplesW k) (orderW k) w w'
+SamplePut k i s f w f' w' = Put (sampleAt k f w) (sampleAt k f' w') (k .samples) i s (samplesF k) (dirsF k) f f' (samplesW k) (orderW k) w w'
 
 -- the sample with another answer: its angle, event and offset stay, and so does the stretch of the samples' angles
 abbrev pub withHit : Sample → Cast → Sample
 withHit s h = record { angle = s .angle; event = s .event; offset = s .offset; hit = h }
 
 abbrev pub HitPut : Rooms → ℕ → Cast → List Float → List ℕ → List Float → List ℕ → Type 0
-HitPut k i h f w f' w' = Put (sampleAt k f w) (sampleAt k f' w') (k .samples) i (withHit (sampleAt k f w i) h) (distancesF k) (floatsFor k) f f' (samplesW k) (orderW k) w w'
+HitPut k i h f w f' w' = Put (sampleAt k f w) (sampleAt k f' w') (k .samples) i (withHit (sampleAt k f w i) h) (distancesF k) (dirsF k) f f' (samplesW k) (orderW k) w w'
+
+-- a direction is of floats alone
+pub record DirPut (k : Rooms) (i : ℕ) (d : Vec2) (f f' : List Float) : Type 0 where
+  pub entry : Stored (dirAt k f) (dirAt k f') (k .samples) i d
+  pub floats : Only (dirsF k) (floatsFor k) f f'

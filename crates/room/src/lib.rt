@@ -8,10 +8,11 @@ use geom::Vec2;
 use site::Cast;
 ghost use mathlib.Core.Path.{_≡_};
 ghost use mathlib.Core.List.{[], _∷_};
+ghost use Prim.Native.Nat.{_≤_, _<_};
 ghost use lib.ListN.{length};
 ghost use Rattle.lists.specs.Lists.{bit};
-ghost use Rattle.room.specs.Layout.{edgesF, eventsF, mergedF, samplesF, distancesF, floatsFor, edgesW, nearestW, eventsW, turnsW, mergedW, cornersW, startsW, refsW, samplesW, orderW, seenW, wordsFor, isShort, Place};
-ghost use Rattle.room.specs.Records.{sixOf, tagOf, distanceOf, numberOf, castOf, edgeAt, eventAt, mergedAt, sampleAt, EdgePut, EventPut, MergedPut, SamplePut, HitPut};
+ghost use Rattle.room.specs.Layout.{edgesF, eventsF, mergedF, samplesF, distancesF, dirsF, floatsFor, edgesW, nearestW, eventsW, turnsW, mergedW, cornersW, startsW, refsW, samplesW, orderW, seenW, wordsFor, isShort, Place};
+ghost use Rattle.room.specs.Records.{sixOf, tagOf, distanceOf, numberOf, castOf, edgeAt, eventAt, mergedAt, sampleAt, dirAt, EdgePut, EventPut, MergedPut, SamplePut, HitPut, DirPut};
 
 // How many entries the caller allows to each list: ids of the box query, front edges, unmerged events, kept-aside corners, samples, bucket
 // starts, angular references, owners, and corners seen at one event.
@@ -29,6 +30,9 @@ pub struct Rooms {
 
 // The vertex of an event that has none.
 pub const NO_VERTEX: u32 = 4294967295;
+
+// How far off its event a ray is.
+pub const ANGLE_EPS: f64 = 1e-8;
 
 // A front-facing edge clipped to the range circle.
 pub struct LocalEdge {
@@ -102,11 +106,18 @@ pub fn distances_f(k: Rooms) -> usize
     samples_f(k) + k.samples as usize
 }
 
+// The samples' directions.
+pub fn dirs_f(k: Rooms) -> usize
+    ensures { λ r. ⌜ r ≡ dirsF k ⌝ }
+{
+    distances_f(k) + k.samples as usize
+}
+
 // How many floats the room needs.
 pub fn floats_for(k: Rooms) -> usize
     ensures { λ r. ⌜ r ≡ floatsFor k ⌝ }
 {
-    distances_f(k) + k.samples as usize
+    dirs_f(k) + 2 * (k.samples as usize)
 }
 
 // ---- where the lists stand in the words; the ids stand from 0 on
@@ -310,6 +321,17 @@ pub fn sample_at(k: Rooms, floats: &[f64], words: &[u32], i: u32) -> Sample
     }
 }
 
+// The direction of the sample i.
+pub fn dir_at(k: Rooms, floats: &[f64], i: u32) -> Vec2
+    ensures { λ r. ⌜ r ≡ dirAt k (now (floats .entry)) i ⌝ }
+{
+    let at = dirs_f(k) + 2 * lists::wide(i);
+    Vec2 {
+        x: lists::at64(floats, at),
+        y: lists::at64(floats, at + 1),
+    }
+}
+
 // ---- writing: each entry into its own part of the room
 
 // A bool as a number.
@@ -344,6 +366,15 @@ fn put_four(s: &mut [u32], a: u32, b: u32, c: u32, d: u32)
     s[1] = b;
     s[2] = c;
     s[3] = d;
+}
+
+// A direction's own numbers.
+fn put_pair(s: &mut [f64], d: Vec2)
+    requires { ⌜ length (now s) ≡ 2 ⌝ }
+    ensures { λ _. ⌜ now (s .exit) ≡ d .x ∷ d .y ∷ [] ⌝ }
+{
+    s[0] = d.x;
+    s[1] = d.y;
 }
 
 // An edge's own numbers: its ends and its span.
@@ -412,7 +443,7 @@ pub fn put_sample(k: Rooms, floats: &mut [f64], words: &mut [u32], i: u32, s: Sa
     let n = lists::wide(i);
     let from = samples_f(k);
     let mid = distances_f(k);
-    let to = floats_for(k);
+    let to = dirs_f(k);
     lists::put64(&mut floats[from..mid], n, s.angle);
     lists::put64(&mut floats[mid..to], n, distance_of(h));
     let at = samples_w(k) + 4 * n;
@@ -433,9 +464,19 @@ pub fn put_hit(k: Rooms, floats: &mut [f64], words: &mut [u32], i: u32, h: Cast)
 {
     let n = lists::wide(i);
     let mid = distances_f(k);
-    let to = floats_for(k);
+    let to = dirs_f(k);
     lists::put64(&mut floats[mid..to], n, distance_of(h));
     let at = samples_w(k) + 4 * n + 2;
     let end = at + 2;
     put_two(&mut words[at..end], tag_of(h), number_of(h));
+}
+
+// Makes d the direction of the sample i.
+pub fn put_dir(k: Rooms, floats: &mut [f64], i: u32, d: Vec2)
+    requires { ⌜ (floatsFor k ≤ length (now floats)) × (i < k .samples) ⌝ }
+    ensures { λ _. ⌜ DirPut k i d (now (floats .entry)) (now (floats .exit)) ⌝ }
+{
+    let at = dirs_f(k) + 2 * lists::wide(i);
+    let end = at + 2;
+    put_pair(&mut floats[at..end], d);
 }

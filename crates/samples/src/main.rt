@@ -234,7 +234,7 @@ fn show_post(
 ) {
     let mut marks = [0u32; 2];
     let mut epoch: u32 = 0;
-    let mut floats = [0.0; 316];
+    let mut floats = [0.0; 572];
     let mut words = [0u32; 1687];
     let mut outline = [0.0; 256];
     let mut visible = [0u32; 2];

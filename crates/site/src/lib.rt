@@ -7,7 +7,7 @@ use geom::Aabb;
 use geom::Vec2;
 use grid::Grid;
 ghost use mathlib.Core.Path.{_≡_};
-ghost use Prim.Native.Nat.{_-_, _<_, min};
+ghost use Prim.Native.Nat.{_-_, _<_};
 ghost use lib.ListN.{length};
 ghost use Rattle.site.specs.Tables.{tables, firstOf, lenOf, pointAt, ownerAt, startAt, itemAt, vertsOf, boxOf, edgeEndOf, edgeOf, cellsOf};
 ghost use Rattle.site.specs.Domain.{pointInDomain, boxInDomain, loadOf, loadPointOf, loadBoxOf};
@@ -97,21 +97,14 @@ pub fn item_at(items: &[u32], i: usize) -> u32
     lists::at32(items, i)
 }
 
-// The smaller of two.
-fn least(a: usize, b: usize) -> usize
-    ensures { λ r. ⌜ r ≡ min a b ⌝ }
-{
-    if a < b { a } else { b }
-}
-
 // The points of the polygon k, as a part of the point list: as much of it as was lent.
 pub fn verts_of<'a>(points: &'a [f64], polygons: &[u32], k: u32) -> &'a [f64]
     ensures { λ r. ⌜ now r ≡ vertsOf (now (points .entry)) (now (polygons .entry)) k ⌝ }
 {
     let first = lists::wide(first_of(polygons, k));
     let len = lists::wide(len_of(polygons, k));
-    let a = least(POINT * first, points.len());
-    let z = least(POINT * (first + len), points.len());
+    let a = lists::least(POINT * first, points.len());
+    let z = lists::least(POINT * (first + len), points.len());
     &points[a..z]
 }
 

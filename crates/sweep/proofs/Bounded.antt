@@ -23,7 +23,8 @@ use Rattle.refining.specs.Refine.{Env, endOf, turnOf, Run, runAt, counting, pus
 use Rattle.seen.specs.Seen.{scene, seenOf, pushAll, passed, seeOf}
 use Rattle.sweep.specs.declared.Next.{Next}
 use Rattle.sweep.specs.declared.Next.the-variants.{To, Last}
-use Rattle.sweep.specs.Sweep.{angleEps, isPair, nextOf, emitOf, stepsOf, arcPoint, arcOf, gapOf, Course, betweenOf, visitOf, walkOf, sweepOf}
+use Rattle.room.specs.Constants.{angleEps}
+use Rattle.sweep.specs.Sweep.{isPair, nextOf, emitOf, stepsOf, arcPoint, arcOf, gapOf, Course, betweenOf, visitOf, walkOf, sweepOf}
 use Rattle.sweep.specs.Recorder.{halveWith, refineWith, emitWith, arcWith, gapWith, betweenWith, visitWith, walkWith, sweepWith, bounded}
 use Rattle.sweep.proofs.Sim.{turns-any, sim-halve, sim-refine}
 

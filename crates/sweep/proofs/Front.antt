@@ -24,7 +24,7 @@ use Rattle.room.specs.declared.Rooms.{Rooms}
 use Rattle.room.specs.declared.Sample.{Sample}
 use Rattle.room.specs.Layout.{edgesW, nearestW, mergedW, cornersW, startsW, samplesW, orderW, seenW}
 use Rattle.room.specs.declared.Merged.{Merged}
-use Rattle.room.specs.Records.{mergedAt, sampleAt}
+use Rattle.room.specs.Records.{mergedAt, sampleAt, dirAt, Directed}
 use Rattle.room.proofs.Kept.{merged-kept, sample-kept}
 use Rattle.cone.specs.declared.View.{View}
 use Rattle.index.specs.declared.AngularIndex.{AngularIndex}
@@ -53,16 +53,20 @@ module _ (k : Rooms) (words : List ℕ) where
       ap (λ (i : Index). λ (angle : Float). castOf i (view .o) angle (fromAngleOf (view .start ⊕ angle)) (view .r))
       (index-kept k floats floats words (part 0 (seenW k) words) x sound refl (front-part (edgesW k) (nearestW k) (omega arith)) (front-part (startsW k) (samplesW k) (omega arith)))
 
-  -- the samples, where the order names samples of the room
-  pub samples-front : (floats : List Float) (n : ℕ) → n ≤ k .samples → ((i : ℕ) → i < n → getD words (orderW k + i) 0 < k .samples)
-      → listed (sampleIn k floats (part 0 (seenW k) words)) n ≡ listed (sampleIn k floats words) n
-  unfolding sampleIn
-  samples-front floats n h below = listed-ext (sampleIn k floats (part 0 (seenW k) words)) (sampleIn k floats words) n at
-    where
-      at : (i : ℕ) → i < n → sampleIn k floats (part 0 (seenW k) words) i ≡ sampleIn k floats words i
-      at i m =
-          ap (sampleAt k floats (part 0 (seenW k) words)) (front-at (orderW k + i) (omega arith))
-          ∙ sample-kept k floats floats words (part 0 (seenW k) words) (getD words (orderW k + i) 0) (below i m) refl (front-part (samplesW k) (orderW k) (omega arith))
+  -- the samples and their directions, where the order names samples of the room
+  module _ (floats : List Float) (n : ℕ) (h : n ≤ k .samples) (below : (i : ℕ) → i < n → getD words (orderW k + i) 0 < k .samples) where
+    one-front : (i : ℕ) → i < n → sampleAt k floats (part 0 (seenW k) words) (getD (part 0 (seenW k) words) (orderW k + i) 0) ≡ sampleAt k floats words (getD words (orderW k + i) 0)
+    one-front i m =
+        ap (sampleAt k floats (part 0 (seenW k) words)) (front-at (orderW k + i) (omega arith))
+        ∙ sample-kept k floats floats words (part 0 (seenW k) words) (getD words (orderW k + i) 0) (below i m) refl (front-part (samplesW k) (orderW k) (omega arith))
+
+    pub samples-front : listed (sampleIn k floats (part 0 (seenW k) words)) n ≡ listed (sampleIn k floats words) n
+    unfolding sampleIn
+    samples-front = listed-ext (sampleIn k floats (part 0 (seenW k) words)) (sampleIn k floats words) n one-front
+
+    pub directed-front : (start : Float) → Directed k start floats words n → Directed k start floats (part 0 (seenW k) words) n
+    directed-front start d i m =
+        ap (dirAt k floats) (front-at (orderW k + i) (omega arith)) ∙ d i m ∙ ap (λ (q : Sample). fromAngleOf (start ⊕ q .angle)) (sym (one-front i m))
 
 -- ---- the corners count only at the events of the samples
 abbrev pub withCorners : Course → (ℕ → List ℕ) → Course

@@ -22,7 +22,8 @@ use Rattle.refining.specs.Refine.{pointOf, Env, endOf, turnOf}
 use Rattle.seen.specs.Seen.{scene, seenOf}
 use Rattle.sweep.specs.declared.Next.{Next}
 use Rattle.sweep.specs.declared.Next.the-variants.{To, Last}
-use Rattle.sweep.specs.Sweep.{angleEps, isPair, nextOf, stepsOf, arcPoint, Course}
+use Rattle.room.specs.Constants.{angleEps}
+use Rattle.sweep.specs.Sweep.{isPair, nextOf, stepsOf, arcPoint, Course}
 use Rattle.sweep.specs.Recorder.{Recorder, halveWith, refineWith, emitWith, arcWith, gapWith, betweenWith, visitWith, walkWith, sweepWith}
 
 -- an edge that hides a crossing has a property, and so has one that a ray hits

@@ -1,5 +1,5 @@
 -- The turns of `walk`: the samples from i on are left to walk. Assumes nothing.
-use mathlib.Core.Path.{_≡_, refl, sym, _∙_, ap}
+use mathlib.Core.Path.{_≡_, refl, sym, _∙_, ap, subst}
 use mathlib.Core.Logic.{inl, ⊎-elim}
 use mathlib.Core.Bool.{Bool, true, false, cond}
 use mathlib.Core.List.{List, [], _∷_}
@@ -18,6 +18,7 @@ use Rattle.lists.proofs.Joined.{length-listed, getD-listed}
 use Rattle.room.specs.declared.Rooms.{Rooms}
 use Rattle.room.specs.declared.Sample.{Sample}
 use Rattle.room.specs.Layout.{seenW, wordsFor}
+use Rattle.room.specs.Records.{Directed}
 use Rattle.cone.specs.declared.View.{View}
 use Rattle.index.specs.declared.AngularIndex.{AngularIndex}
 use Rattle.outline.specs.declared.Trace.{Trace}
@@ -95,12 +96,18 @@ module _ (k : Rooms) (x : AngularIndex) (floats : List Float) (view : View) (ste
     pub walk-ready : i < n → n < 2 ^ 32 → k .owners < 2 ^ 32 → Ready (length pts) (k .owners) t
     walk-ready h a b = record { points = omega (arith, so .points, so .long); owners = so .owners; casts = omega (arith, so .casts) }
 
+    -- what is written lies behind what is read
+    front : part 0 (seenW k) words ≡ part 0 (seenW k) words₀
+    front = only-part 0 (seenW k) (so .only) (inl (le-refl (seenW k)))
+
+    pub walk-directed : Directed k (view .start) floats (part 0 (seenW k) words₀) n → Directed k (view .start) floats (part 0 (seenW k) words) n
+    walk-directed d = subst (λ (f : List ℕ). Directed k (view .start) floats f n) (sym front) d
+
     pub walk-more : i < n → (words' : List ℕ) (pts' : List Float) (marks' : List ℕ) (t' : Trace)
         → runAt pts' marks' t' ≡ visitOf (courseAt words) (samplesAt words i) (nextIn (view .full) (samplesAt words) n i) (runAt pts marks t)
         → Done (length pts) (k .owners) t t' × Only (seenW k) (wordsFor k) words words' → length pts' ≡ length pts → length marks' ≡ length marks → Head words' pts' marks' t' (i + 1)
     unfolding walkOf
     walk-more h words' pts' marks' t' e o lp lm =
-        let front : part 0 (seenW k) words ≡ part 0 (seenW k) words₀ = only-part 0 (seenW k) (so .only) (inl (le-refl (seenW k))) in
         let at = samplesAt words₀ in
         let c = courseAt words₀ in
         let same : runAt pts' marks' t' ≡ visitOf c (at i) (nextIn (view .full) at n i) (runAt pts marks t)

@@ -11,29 +11,36 @@ use borrow.Author.Tests.{lt-ltb, le-ltb, eq-eqb, ne-eqb}
 use Rattle.num.specs.Ops.{_⊕_, _⊖_, _⊗_, _⊘_}
 use Rattle.lists.specs.Parts.{part}
 use Rattle.geom.specs.declared.Vec2.{Vec2}
+use Rattle.geom.specs.Vec.{fromAngleOf}
 use Rattle.grid.specs.Range.{countF}
 use Rattle.site.specs.declared.Cast.the-variants.{Hit, Miss}
 use Rattle.room.specs.declared.Rooms.{Rooms}
 use Rattle.room.specs.declared.Sample.{Sample}
 use Rattle.room.specs.Layout.{orderW, seenW}
-use Rattle.room.specs.Records.{sampleAt}
+use Rattle.room.specs.Records.{sampleAt, dirAt, Directed}
 use Rattle.cone.specs.declared.View.{View}
 use Rattle.cone.specs.Cone.{three}
 use Rattle.index.specs.declared.AngularIndex.{AngularIndex}
 use Rattle.outline.specs.declared.Trace.{Trace}
 use Rattle.outline.specs.Outline.{corner, none, Out, out, pushOf, Pushed, Own, owned, ownOf, Room, Grown}
-use Rattle.refining.specs.Refine.{pointOf, castIn, Env, env, Run, runAt, endOf, refineOf, Ready, Done}
+use Rattle.refining.specs.Refine.{alongOf, pointOf, castIn, Env, env, Run, runAt, endOf, refineOf, Ready, Done}
+use Rattle.refining.proofs.Ways.{along-is}
 use Rattle.seen.specs.Seen.{scene, seeOf}
 use Rattle.seen.proofs.Pushes.{pushed-none, pushed-more}
 use Rattle.sweep.specs.declared.Next.{Next}
 use Rattle.sweep.specs.declared.Next.the-variants.{To, Last}
-use Rattle.sweep.specs.Sweep.{angleEps, sampleIn, isPair, turned, nextIn, emitOf, Emitted, stepsOf, arcPoint, arcOf, gapOf, Course, betweenOf, visitOf, startOf, beginOf, sweepOf, Swept}
+use Rattle.room.specs.Constants.{angleEps}
+use Rattle.sweep.specs.Sweep.{sampleIn, dirIn, isPair, turned, nextIn, emitOf, Emitted, stepsOf, arcPoint, arcOf, gapOf, Course, betweenOf, visitOf, startOf, beginOf, sweepOf, Swept}
 
 -- ---- the samples
 pub sample-is : (k : Rooms) (floats : List Float) (words : List ℕ) (i : ℕ) {a j m : ℕ} {s : Sample} → a ≡ orderW k → j ≡ i → m ≡ getD words (a + j) 0 → s ≡ sampleAt k floats words m
     → s ≡ sampleIn k floats words i
 unfolding sampleIn
 sample-is k floats words i {a} {j} ha hj hm hs = hs ∙ ap (sampleAt k floats words) (hm ∙ ap (λ (q : ℕ). getD words (q + j) 0) ha ∙ ap (λ (q : ℕ). getD words (orderW k + q) 0) hj)
+
+pub dir-is : (k : Rooms) (floats : List Float) (words : List ℕ) (i : ℕ) {a j m : ℕ} {d : Vec2} → a ≡ orderW k → j ≡ i → m ≡ getD words (a + j) 0 → d ≡ dirAt k floats m → d ≡ dirIn k floats words i
+unfolding dirIn
+dir-is k floats words i {a} {j} ha hj hm hd = hd ∙ ap (dirAt k floats) (hm ∙ ap (λ (q : ℕ). getD words (q + j) 0) ha ∙ ap (λ (q : ℕ). getD words (orderW k + q) 0) hj)
 
 module _ (full : Bool) (at : ℕ → Sample) (n i : ℕ) {s : Sample} where
   pub next-more : i + 1 < n → s ≡ at (i + 1) → To s ≡ nextIn full at n i
@@ -49,6 +56,10 @@ unfolding nextIn
 next-last full at n i h f = rw (le-ltb (i + 1) n h, f)
 
 -- ---- `emit`
+-- the point along the sample's direction
+pub emit-point : (view : View) (a : Sample) {d p : Vec2} → d ≡ fromAngleOf (view .start ⊕ a .angle) → p ≡ alongOf view d (a .hit) → p ≡ pointOf view (a .angle) (a .hit)
+emit-point view a hd hp = hp ∙ ap (λ (q : Vec2). alongOf view q (a .hit)) hd ∙ along-is view (a .angle) (a .hit)
+
 module _ (view : View) (room : ℕ) (owners : List ℕ) (a : Sample) (pts : List Float) (marks : List ℕ) (s : Trace) {p : Vec2} (hp : p ≡ pointOf view (a .angle) (a .hit)) where
   pub emit-hit : {t : Float} {e : ℕ} → a .hit ≡ Hit t e → {m2 : List ℕ} {s2 : Trace} → owned m2 s2 ≡ ownOf room owners e marks s
       → {p3 : List Float} {s3 : Trace} → out p3 s3 ≡ pushOf (view .o) p e pts s2 → runAt p3 m2 s3 ≡ emitOf view room owners a (runAt pts marks s)
@@ -168,6 +179,13 @@ gap-front k x floats words view points polygons owners step a b s hw h =
 
 pub sample-front : (k : Rooms) (floats : List Float) (words : List ℕ) (i : ℕ) {w : ℕ} {s : Sample} → w ≡ seenW k → s ≡ sampleIn k floats (part 0 w words) i → s ≡ sampleIn k floats (part 0 (seenW k) words) i
 sample-front k floats words i hw h = h ∙ ap (λ (q : ℕ). sampleIn k floats (part 0 q words) i) hw
+
+-- the direction is the sample's
+pub dir-front : (k : Rooms) (start : Float) (floats : List Float) (words : List ℕ) (n i : ℕ) → Directed k start floats (part 0 (seenW k) words) n → i < n → {w : ℕ} {a : Sample} {d : Vec2} → w ≡ seenW k
+    → a ≡ sampleIn k floats (part 0 w words) i → d ≡ dirIn k floats (part 0 w words) i → d ≡ fromAngleOf (start ⊕ a .angle)
+unfolding sampleIn dirIn
+dir-front k start floats words n i h l hw ha hd =
+    hd ∙ ap (λ (q : ℕ). dirIn k floats (part 0 q words) i) hw ∙ h i l ∙ ap (λ (q : Sample). fromAngleOf (start ⊕ q .angle)) (sym (sample-front k floats words i hw ha))
 
 pub next-front : (k : Rooms) (floats : List Float) (words : List ℕ) (full : Bool) (n i : ℕ) {w : ℕ} {s : Next} → w ≡ seenW k → s ≡ nextIn full (sampleIn k floats (part 0 w words)) n i
     → s ≡ nextIn full (sampleIn k floats (part 0 (seenW k) words)) n i

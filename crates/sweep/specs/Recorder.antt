@@ -25,7 +25,8 @@ use Rattle.refining.specs.Refine.{pointOf, Env, endOf, turnOf, Run, runAt, coun
 use Rattle.seen.specs.Seen.{scene, seenOf, pushAll, passed}
 use Rattle.sweep.specs.declared.Next.{Next}
 use Rattle.sweep.specs.declared.Next.the-variants.{To, Last}
-use Rattle.sweep.specs.Sweep.{angleEps, isPair, nextOf, stepsOf, arcPoint, Course}
+use Rattle.room.specs.Constants.{angleEps}
+use Rattle.sweep.specs.Sweep.{isPair, nextOf, stepsOf, arcPoint, Course}
 
 pub record Recorder (S : Type 0) : Type 0 where
   pub push : Vec2 → ℕ → S → S

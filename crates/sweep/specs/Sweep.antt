@@ -1,13 +1,13 @@
 -- The walk over the samples in order of angle (`visibility.rs`, lines 419 to 510): a run over their list, which makes the outline and the marks.
 -- Document 01, "Outlines from a post"; refusal 8: the run is `over` from the moment when a list would pass its entries. One rounding for each operation,
 -- in the Rust's order. Definitions only.
-use mathlib.Core.Path.{_≡_, refl}
+use mathlib.Core.Path.{_≡_}
 use mathlib.Core.Bool.{Bool, true, false, _&&_, cond}
 use mathlib.Core.List.{List, [], _∷_}
 use Prim.Native.Nat.{ℕ, zero, suc, _+_, _-_, _*_, _≤_}
 use lib.Dec.{ltb, eqb}
 use lib.ListN.{getD}
-use lib.Ieee.{Float, binary64, round, ofBits, toUnsigned, lt}
+use lib.Ieee.{Float, toUnsigned, lt}
 use Rattle.num.specs.Ops.{_⊕_, _⊖_, _⊗_, _⊘_}
 use Rattle.num.specs.Num.{ceilOf}
 use Rattle.geom.specs.declared.Vec2.{Vec2}
@@ -17,8 +17,9 @@ use Rattle.site.specs.declared.Cast.{Cast}
 use Rattle.site.specs.declared.Cast.the-variants.{Hit, Miss}
 use Rattle.room.specs.declared.Rooms.{Rooms}
 use Rattle.room.specs.declared.Sample.{Sample}
+use Rattle.room.specs.Constants.{angleEps}
 use Rattle.room.specs.Layout.{orderW, wordsFor}
-use Rattle.room.specs.Records.{sampleAt}
+use Rattle.room.specs.Records.{rayAt, dirAt}
 use Rattle.cone.specs.declared.View.{View}
 use Rattle.cone.specs.Cone.{three}
 use Rattle.index.specs.declared.AngularIndex.{AngularIndex}
@@ -29,18 +30,14 @@ use Rattle.seen.specs.Seen.{scene, cornersOf, seeOf}
 use Rattle.sweep.specs.declared.Next.{Next}
 use Rattle.sweep.specs.declared.Next.the-variants.{To, Last}
 
--- the angle between an event and the rays on its sides, 1e-8
-abbrev pub angleEps : Float
-angleEps = ofBits binary64 0x3e45_798e_e230_8c3a
-
-pub angleEps-is : angleEps ≡ round binary64 false 1 100000000
-unfolding ofBits round
-angleEps-is = refl
-
 -- ---- the samples
 -- the sample i in order of angle, read from the work room
 unfoldable pub sampleIn : Rooms → List Float → List ℕ → ℕ → Sample
-sampleIn k floats words i = sampleAt k floats words (getD words (orderW k + i) 0)
+sampleIn k floats words i = rayAt k floats words i
+
+-- its direction
+unfoldable pub dirIn : Rooms → List Float → List ℕ → ℕ → Vec2
+dirIn k floats words i = dirAt k floats (getD words (orderW k + i) 0)
 
 -- the two side rays of one event: offsets 0 and 2 stand for -1 and 1
 unfoldable pub isPair : Sample → Sample → Bool

@@ -1,6 +1,7 @@
 // The sweep: the samples in order of angle are walked, and the outline and the marks of the polygons seen are made (`visibility.rs`, lines 419 to 510).
 // Each sample puts its own point on the outline; between it and the next one lie the corners of an event, an arc of the range circle, or a crossing of
-// two edges. The samples are read through their order from the work room; of the words only the last stretch is written, by the corners seen.
+// two edges. The samples and their directions are read through their order from the work room; of the words only the last stretch is written, by the
+// corners seen.
 // Meanings: specs/Sweep.antt.
 use cone::View;
 use geom::Vec2;
@@ -8,6 +9,7 @@ use index::AngularIndex;
 use outline::CORNER;
 use outline::Trace;
 use refining::End;
+use room::ANGLE_EPS;
 use room::Rooms;
 use room::Sample;
 use site::Cast;
@@ -16,15 +18,15 @@ ghost use Prim.Native.Nat.{_-_, _*_, _≤_, _<_};
 ghost use lib.ListN.{length};
 ghost use Rattle.lists.specs.Lists.{listed};
 ghost use Rattle.lists.specs.Parts.{part, Only};
+ghost use Rattle.num.specs.Ops.{_⊕_};
+ghost use Rattle.geom.specs.Vec.{fromAngleOf};
 ghost use Rattle.room.specs.Layout.{seenW, wordsFor};
+ghost use Rattle.room.specs.Records.{Directed};
 ghost use Rattle.outline.specs.Outline.{none, out, Pushed, Room};
 ghost use Rattle.refining.specs.Refine.{castIn, env, runAt, Ready, Done};
-ghost use Rattle.sweep.specs.Sweep.{sampleIn, isPair, arcPoint, arcOf, stepsOf, emitOf, Emitted, gapOf, courseIn, betweenOf, visitOf, nextIn, startOf, beginOf, sweepOf, Walks, Swept};
+ghost use Rattle.sweep.specs.Sweep.{sampleIn, dirIn, isPair, arcPoint, arcOf, stepsOf, emitOf, Emitted, gapOf, courseIn, betweenOf, visitOf, nextIn, startOf, beginOf, sweepOf, Walks, Swept};
 
 const TAU: f64 = 6.283185307179586;
-
-// The angle between an event and the rays on its sides.
-const ANGLE_EPS: f64 = 1e-8;
 
 // The sample that follows: after the last one the first, a turn later, in a full circle, and none in a sector.
 enum Next {
@@ -38,6 +40,14 @@ fn sample_in(k: Rooms, floats: &[f64], words: &[u32], i: u32) -> Sample
 {
     let at = room::order_w(k) + lists::wide(i);
     room::sample_at(k, floats, words, lists::at32(words, at))
+}
+
+// The direction of the sample i in order of angle.
+fn dir_in(k: Rooms, floats: &[f64], words: &[u32], i: u32) -> Vec2
+    ensures { λ r. ⌜ r ≡ dirIn k (now (floats .entry)) (now (words .entry)) i ⌝ }
+{
+    let at = room::order_w(k) + lists::wide(i);
+    room::dir_at(k, floats, lists::at32(words, at))
 }
 
 // The sample that follows the sample i of n.
@@ -68,7 +78,7 @@ fn is_pair(a: Sample, b: Sample) -> bool
     (a.offset == 0) & (b.offset == 2) & (b.event == a.event)
 }
 
-// The point and, where it hits, the owner of a sample.
+// The point and, where it hits, the owner of a sample, whose direction is `dir`.
 fn emit(
     owners: &[u32],
     pts: &mut [f64],
@@ -76,15 +86,16 @@ fn emit(
     room: u32,
     view: View,
     a: Sample,
+    dir: Vec2,
     s: Trace,
 ) -> Trace
-    requires { ⌜ (2 * s .points ≤ length (now pts)) × Room room s ⌝ }
+    requires { ⌜ (2 * s .points ≤ length (now pts)) × Room room s × (dir ≡ fromAngleOf (view .start ⊕ a .angle)) ⌝ }
     ensures { λ r. ⌜ runAt (now (pts .exit)) (now (marks .exit)) r ≡ emitOf view room (now (owners .entry)) a (runAt (now (pts .entry)) (now (marks .entry)) s) ⌝ }
     ensures { λ r. ⌜ Emitted (length (now (pts .entry))) room s r ⌝ }
 {
     let o = view.o;
     let hit = a.hit;
-    let p = refining::point(view, a.angle, hit);
+    let p = refining::point_along(view, dir, hit);
     match hit {
         Cast::Hit(_, e) => {
             let t = outline::own(room, owners, marks, s, e);
@@ -270,14 +281,15 @@ fn visit(
     i: u32,
     s: Trace,
 ) -> Trace
-    requires { ⌜ (i < n) × (wordsFor k ≤ length (now words)) × Ready (length (now pts)) (k .owners) s ⌝ }
+    requires { ⌜ (i < n) × (wordsFor k ≤ length (now words)) × Ready (length (now pts)) (k .owners) s × Directed k (view .start) (now floats) (part 0 (seenW k) (now words)) n ⌝ }
     ensures { λ r. ⌜ runAt (now (pts .exit)) (now (marks .exit)) r ≡ visitOf (courseIn k x (now (floats .entry)) (part 0 (seenW k) (now (words .entry))) view step (now (points .entry)) (now (polygons .entry)) (now (owners .entry))) (sampleIn k (now (floats .entry)) (part 0 (seenW k) (now (words .entry))) i) (nextIn (view .full) (sampleIn k (now (floats .entry)) (part 0 (seenW k) (now (words .entry)))) n i) (runAt (now (pts .entry)) (now (marks .entry)) s) ⌝ }
     ensures { λ r. ⌜ Done (length (now (pts .entry))) (k .owners) s r × Only (seenW k) (wordsFor k) (now (words .entry)) (now (words .exit)) ⌝ }
 {
     let w = room::seen_w(k);
     let a = sample_in(k, floats, &words[0..w], i);
+    let dir = dir_in(k, floats, &words[0..w], i);
     let next = next_of(k, floats, &words[0..w], view, n, i);
-    let t = emit(owners, pts, marks, k.owners, view, a, s);
+    let t = emit(owners, pts, marks, k.owners, view, a, dir, s);
     match next {
         Next::To(b) => between(
             k,
@@ -315,7 +327,7 @@ fn walk(
     n: u32,
     s: Trace,
 ) -> Trace
-    requires { ⌜ Walks k (length (now words)) (length (now pts)) s ⌝ }
+    requires { ⌜ Walks k (length (now words)) (length (now pts)) s × Directed k (view .start) (now floats) (part 0 (seenW k) (now words)) n ⌝ }
     ensures { λ r. ⌜ runAt (now (pts .exit)) (now (marks .exit)) r ≡ sweepOf (courseIn k x (now (floats .entry)) (part 0 (seenW k) (now (words .entry))) view step (now (points .entry)) (now (polygons .entry)) (now (owners .entry))) (listed (sampleIn k (now (floats .entry)) (part 0 (seenW k) (now (words .entry)))) n) (runAt (now (pts .entry)) (now (marks .entry)) s) ⌝ }
     ensures { λ r. ⌜ Swept k (length (now (pts .entry))) n r × Only (seenW k) (wordsFor k) (now (words .entry)) (now (words .exit)) ⌝ }
 {
@@ -355,7 +367,7 @@ fn begin(pts: &mut [f64], view: View) -> Trace
     outline::push(pts, outline::empty(), o, o, CORNER)
 }
 
-// The outline of the n samples that stand in the work room, and the marks of the polygons seen. `step` is the arc's.
+// The outline of the n samples that stand in the work room with their directions, and the marks of the polygons seen. `step` is the arc's.
 pub fn sweep(
     k: Rooms,
     x: AngularIndex,
@@ -370,7 +382,7 @@ pub fn sweep(
     step: f64,
     n: u32,
 ) -> Trace
-    requires { ⌜ wordsFor k ≤ length (now words) ⌝ }
+    requires { ⌜ (wordsFor k ≤ length (now words)) × Directed k (view .start) (now floats) (part 0 (seenW k) (now words)) n ⌝ }
     ensures { λ r. ⌜ runAt (now (pts .exit)) (now (marks .exit)) r ≡ sweepOf (courseIn k x (now (floats .entry)) (part 0 (seenW k) (now (words .entry))) view step (now (points .entry)) (now (polygons .entry)) (now (owners .entry))) (listed (sampleIn k (now (floats .entry)) (part 0 (seenW k) (now (words .entry)))) n) (beginOf view (now (pts .entry)) (now (marks .entry))) ⌝ }
     ensures { λ r. ⌜ Swept k (length (now (pts .entry))) n r × Only (seenW k) (wordsFor k) (now (words .entry)) (now (words .exit)) ⌝ }
 {

@@ -66,6 +66,7 @@ module _ (k : Rooms) (v : View) (edges events : ℕ) (f : List Float) (w : List 
       few = λ e. absurd (true≢false e);
       rays = λ e. absurd (true≢false e);
       below = λ e. absurd (true≢false e);
+      dirs = λ e. absurd (true≢false e);
       index = λ e. absurd (true≢false e);
       within = λ e. absurd (true≢false e);
       spots-stay = λ e. absurd (true≢false e);
@@ -125,6 +126,7 @@ module _ (k : Rooms) (v : View) (edges events : ℕ) (f : List Float) (w : List 
           few = λ e. ltb-false (k .samples) (r .samples) (sym (R .over) ∙ e);
           rays = λ e. R .rays e ∙ ap (λ (i : Index). raysCast v i (samplesOf v (turnAt k f w1) events)) stands ∙ ap (raysCast v (indexOf (v .fov) (edgesIn k f w edges))) samples-is;
           below = λ e. R .below e;
+          dirs = λ e. R .dirs e;
           index = λ e. index-behind k f f2 w1 w2 x sound (R .floats) (R .words) (omega arith) (omega arith) ∙ stands;
           within = λ e. within-behind k f f2 w1 w2 x sound (R .floats) (R .words) (omega arith) (omega arith);
           spots-stay = λ e. ap (spotsIn k f2 w2) few-events ∙ spots-kept k f f2 w1 w2 events (S .events-fit) ends-1 merged-kept corners-kept ∙ spots-1;

@@ -21,12 +21,12 @@ use Rattle.room.specs.declared.Rooms.{Rooms}
 use Rattle.room.specs.declared.LocalEdge.{LocalEdge}
 use Rattle.room.specs.declared.Sample.{Sample}
 use Rattle.room.specs.Layout.{seenW, wordsFor}
+use Rattle.room.specs.Records.{rayAt}
 use Rattle.events.specs.Spots.{Spot}
 use Rattle.events.specs.Held.{spotAt}
 use Rattle.index.specs.Angular.{Index, indexOf}
 use Rattle.index.specs.Casting.{castOf}
 use Rattle.rays.specs.Samples.{hitOf}
-use Rattle.rays.specs.Stands.{rayAt}
 use Rattle.refining.specs.Refine.{castIn, env, Run}
 use Rattle.seen.specs.Seen.{cornersOf}
 use Rattle.sweep.specs.Sweep.{Course, sampleIn, courseIn, sweepOf}

@@ -22,7 +22,8 @@ use Rattle.room.specs.declared.LocalEdge.{LocalEdge}
 use Rattle.room.specs.declared.Event.{Event}
 use Rattle.room.specs.declared.Sample.{Sample}
 use Rattle.fan.specs.Fan.{Fanned, fanOf, isOver}
-use Rattle.events.specs.Spots.{Spot, noVertex, sidesOf, spotsOf, cornersOf}
+use Rattle.room.specs.Constants.{noVertex}
+use Rattle.events.specs.Spots.{Spot, sidesOf, spotsOf, cornersOf}
 use Rattle.index.specs.Spans.{headOf}
 use Rattle.index.specs.Angular.{indexOf, refsOf}
 use Rattle.index.specs.Stands.{overOf}

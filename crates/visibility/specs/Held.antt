@@ -16,7 +16,7 @@ use Rattle.cone.specs.declared.View.{View}
 use Rattle.room.specs.declared.Rooms.{Rooms}
 use Rattle.room.specs.declared.LocalEdge.{LocalEdge}
 use Rattle.room.specs.Layout.{orderW, seenW, Fit}
-use Rattle.room.specs.Records.{edgesIn}
+use Rattle.room.specs.Records.{edgesIn, Directed}
 use Rattle.fan.specs.Fan.{Fanned, isOver, Ready}
 use Rattle.events.specs.Spots.{Spot}
 use Rattle.events.specs.Held.{spotsIn, EndsBelow}
@@ -55,13 +55,14 @@ pub record Gathered (k : Rooms) (v : View) (g : Fanned) (r : Gathering) (f : Lis
   pub spots : r .over ≡ false → r .touch ≡ false → spotsIn k f w (r .events) ≡ spotsFor v g
   pub stand : r .over ≡ false → r .touch ≡ false → Standing k (r .edges) (r .events) f w
 
--- ---- the index and the rays, from f and w to f' and w': over, or they stand in the room, and the merged events still do
+-- ---- the index and the rays with their directions, from f and w to f' and w': over, or they stand in the room, and the merged events still do
 pub record Casted (k : Rooms) (v : View) (edges : List LocalEdge) (spots : List Spot) (r : Casting) (f : List Float) (w : List ℕ) : Type 0 where
   pub over : r .over ≡ raysOver k v edges spots
   pub samples : r .over ≡ false → r .samples ≡ length (samplesFor v spots)
   pub few : r .over ≡ false → r .samples ≤ k .samples
   pub rays : r .over ≡ false → raysIn k f w (r .samples) ≡ raysFor v edges spots
   pub below : r .over ≡ false → (t : ℕ) → t < r .samples → getD w (orderW k + t) 0 < k .samples
+  pub dirs : r .over ≡ false → Directed k (v .start) f w (r .samples)
   pub index : r .over ≡ false → indexIn k f w (r .index) ≡ indexOf (v .fov) edges
   pub within : r .over ≡ false → Within k w (r .index)
   pub spots-stay : r .over ≡ false → spotsIn k f w (length spots) ≡ spots

@@ -14,13 +14,14 @@ use sight::Whose;
 use site::Site;
 ghost use mathlib.Core.Path.{_≡_};
 ghost use mathlib.Core.List.{[]};
-ghost use Prim.Native.Nat.{_*_, _≤_, min};
+ghost use Prim.Native.Nat.{_*_, _≤_};
 ghost use lib.ListN.{length, take};
 ghost use Rattle.site.specs.Tables.{tables};
 ghost use Rattle.site.specs.Soundness.{Sound};
 ghost use Rattle.grid.specs.Entries as entries;
-ghost use Rattle.room.specs.Layout.{wordsFor};
-ghost use Rattle.room.specs.Records.{edgesIn};
+ghost use Rattle.lists.specs.Parts.{part};
+ghost use Rattle.room.specs.Layout.{seenW, wordsFor};
+ghost use Rattle.room.specs.Records.{edgesIn, Directed};
 ghost use Rattle.fan.specs.Fan.{fanOf, Ready};
 ghost use Rattle.events.specs.Held.{spotsIn};
 ghost use Rattle.visibility.specs.Asked.{coneInDomain, admitOf, loadConeOf, isEmpty, planOf};
@@ -163,16 +164,6 @@ fn plan_of(
     }
 }
 
-// The smaller of two.
-fn least(a: usize, b: usize) -> usize
-    ensures { λ r. ⌜ r ≡ min a b ⌝ }
-{
-    if a < b {
-        return a;
-    }
-    b
-}
-
 // The box query where the plan has one, in front of the words.
 fn look(
     p: Plan,
@@ -307,7 +298,7 @@ fn trace(
     outline: &mut [f64],
     visible: &mut [u32],
 ) -> Tracing
-    requires { ⌜ wordsFor k ≤ length (now words) ⌝ }
+    requires { ⌜ (wordsFor k ≤ length (now words)) × Directed k (view .start) (now floats) (part 0 (seenW k) (now words)) n ⌝ }
     ensures { λ r. ⌜ Traced (runIn k x (now (floats .entry)) (now (words .entry)) view step (now (points .entry)) (now (polygons .entry)) (now (owners .entry)) n (length (now (outline .entry)))) (length (now (visible .entry))) r (now (outline .exit)) (now (visible .exit)) ⌝ }
 {
     let mut marks = [0u8; 4096];
@@ -612,7 +603,7 @@ pub fn seen_from(
 {
     let g = site.grid;
     let short = room::is_short(k, floats.len(), words.len());
-    let room = least(lists::wide(k.ids), words.len());
+    let room = lists::least(lists::wide(k.ids), words.len());
     let p = plan_of(g, points, boxes, polygons, starts, items, cone);
     let ids = look(p, g, starts, items, room, marks, epoch, &mut *words);
     let a = drawn(

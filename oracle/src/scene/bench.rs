@@ -1,7 +1,7 @@
 //! Timings of questions on random sites of 2000 by 2000: with the test of the tables that each call
-//! begins with, and without it, beside the Rust as published. Without it, many questions are asked in
-//! one call, as inner functions are used, and each through a C call of its own, whose cost is then in
-//! the time.
+//! begins with, and without it, beside the Rust as published. Without it, points and rays are asked
+//! many in one call, as inner functions are used, and each question through a C call of its own, whose
+//! cost is then in the time.
 
 use super::given::{self, Given};
 use crate::lent::Lent;
@@ -231,81 +231,171 @@ fn near(table: &mut Bench, r: &mut SplitMix64, timed: &Timed, polygons: usize) {
     );
 }
 
-/// A question that reads a number or two, asked of a polygon's or edge's number, on either side.
-type Read = (
-    &'static str,
-    fn(&Lent, u32) -> u64,
-    fn(&plain::Scene, u32) -> u64,
-);
+/// A point on the diagonal of the site.
+fn place(k: u32) -> (f64, f64) {
+    (f64::from(k), f64::from(k))
+}
 
-const READS: [Read; 10] = [
-    (
-        "items_at_number",
-        |s, k| s.items_at_number((f64::from(k), f64::from(k))).1,
-        |s, k| {
-            s.grid()
-                .items_at(plain::Vec2::new(f64::from(k), f64::from(k)))
-                .len() as u64
-        },
-    ),
-    (
-        "edge",
-        |s, k| s.edge(k).1[0].to_bits(),
-        |s, k| s.edge(k).0.x.to_bits(),
-    ),
-    (
-        "edge_end",
-        |s, k| u64::from(s.edge_end(k).1),
-        |s, k| u64::from(s.edge_end(k)),
-    ),
-    (
-        "edge_owner",
-        |s, k| u64::from(s.edge_owner(k).1),
-        |s, k| u64::from(s.edge_owner(k)),
-    ),
-    (
-        "polygon",
-        |s, k| s.polygon(k).2[0].to_bits(),
-        |s, k| s.polygon(k).aabb.min.x.to_bits(),
-    ),
-    (
-        "polygon_vertices_number",
-        |s, k| s.polygon_vertices_number(k).1,
-        |s, k| s.polygon_vertices(k).len() as u64,
-    ),
-    (
-        "bounds",
-        |s, _| s.bounds().1[0].to_bits(),
-        |s, _| s.bounds().min.x.to_bits(),
-    ),
-    (
-        "width",
-        |s, _| s.width().1.to_bits(),
-        |s, _| s.width().to_bits(),
-    ),
-    (
-        "height",
-        |s, _| s.height().1.to_bits(),
-        |s, _| s.height().to_bits(),
-    ),
-    (
-        "dims",
-        |s, _| u64::from(s.dims().1[0]),
-        |s, _| s.grid().dims().0 as u64,
-    ),
-];
+/// One number that hangs on all of these: no side may leave a part of its answer out.
+fn mixed<const N: usize>(numbers: [u64; N]) -> u64 {
+    numbers.iter().fold(0, |all, n| all.rotate_left(7) ^ n)
+}
 
-/// What they take is the test of the tables, whose own row says how much.
-fn reads(table: &mut Bench, r: &mut SplitMix64, timed: &Timed, polygons: usize) {
-    let asked: Vec<[f64; 1]> = some(FEW, || [r.between(0.0, polygons as f64).floor()]);
-    for (name, ours, rust) in READS {
-        let (ours, rust) = (black_box(ours), black_box(rust));
-        table.add(
+fn mixed_floats<const N: usize>(floats: [f64; N]) -> u64 {
+    mixed(floats.map(f64::to_bits))
+}
+
+fn four(b: plain::Aabb) -> [f64; 4] {
+    [b.min.x, b.min.y, b.max.x, b.max.y]
+}
+
+fn shape([first, len]: [u32; 2], b: [f64; 4]) -> u64 {
+    mixed([u64::from(first), u64::from(len), mixed_floats(b)])
+}
+
+/// The questions that only read, asked by number.
+struct Reads<'a> {
+    table: &'a mut Bench,
+    r: &'a mut SplitMix64,
+    timed: &'a Timed,
+    polygons: usize,
+    few: Vec<[f64; 1]>,
+}
+
+impl Reads<'_> {
+    /// One question with the test of the tables and without it, for numbers below `known`. Ours is
+    /// one C call, and the Rust's stands behind one call that the compiler does not know.
+    fn add(
+        &mut self,
+        name: &str,
+        known: u32,
+        ours: impl Fn(&Lent, u32) -> u64,
+        inner: impl Fn(&Lent, u32) -> u64,
+        rust: fn(&plain::Scene, u32) -> u64,
+    ) {
+        let (timed, polygons, rust) = (self.timed, self.polygons, black_box(rust));
+        let many: Vec<[f64; 1]> = some(QUESTIONS, || {
+            [self.r.between(0.0, f64::from(known)).floor()]
+        });
+        for k in many.iter().map(|&[k]| k as u32) {
+            let same = inner(&timed.site, k) == rust(&timed.rust, k);
+            assert!(same, "{name} of {k}: the same answer");
+        }
+        self.table.add(
+            &format!("`{name}` without the table test, through the C call, {polygons} polygons"),
+            Limit::None,
+            &many,
+            |[k]| inner(&timed.site, k as u32),
+            |[k]| rust(&timed.rust, k as u32),
+        );
+        self.table.add(
             &format!("`{name}`, {polygons} polygons"),
             Limit::None,
-            &asked,
+            &self.few,
             |[k]| ours(&timed.site, k as u32),
             |[k]| rust(&timed.rust, k as u32),
         );
     }
+}
+
+/// With the test of the tables, what they take is the test, whose own row says how much. The head's
+/// questions use no number, so their calls never wait for each other: the two times are alike.
+fn reads(table: &mut Bench, r: &mut SplitMix64, timed: &Timed, polygons: usize) {
+    let few = some(FEW, || [r.between(0.0, polygons as f64).floor()]);
+    let [_, _, ids, edges, _] = timed.site.head.counts;
+    let mut reads = Reads {
+        table,
+        r,
+        timed,
+        polygons,
+        few,
+    };
+    reads.add(
+        "items_at_number",
+        SIDE as u32,
+        |s, k| s.items_at_number(place(k)).1,
+        |s, k| s.inner_items_at_number(place(k)).1,
+        |s, k| {
+            let (x, y) = place(k);
+            s.grid().items_at(plain::Vec2::new(x, y)).len() as u64
+        },
+    );
+    reads.add(
+        "edge",
+        edges,
+        |s, k| mixed_floats(s.edge(k).1),
+        |s, k| mixed_floats(s.inner_edge(k).1),
+        |s, k| {
+            let (a, b) = s.edge(k);
+            mixed_floats([a.x, a.y, b.x, b.y])
+        },
+    );
+    reads.add(
+        "edge_end",
+        edges,
+        |s, k| u64::from(s.edge_end(k).1),
+        |s, k| u64::from(s.inner_edge_end(k).1),
+        |s, k| u64::from(s.edge_end(k)),
+    );
+    reads.add(
+        "edge_owner",
+        edges,
+        |s, k| u64::from(s.edge_owner(k).1),
+        |s, k| u64::from(s.inner_edge_owner(k).1),
+        |s, k| u64::from(s.edge_owner(k)),
+    );
+    reads.add(
+        "polygon",
+        ids,
+        |s, k| {
+            let (_, place, b) = s.polygon(k);
+            shape(place, b)
+        },
+        |s, k| {
+            let (_, place, b) = s.inner_polygon(k);
+            shape(place, b)
+        },
+        |s, k| {
+            let p = s.polygon(k);
+            shape([p.first, p.len], four(p.aabb))
+        },
+    );
+    reads.add(
+        "polygon_vertices_number",
+        ids,
+        |s, k| s.polygon_vertices_number(k).1,
+        |s, k| s.inner_polygon_vertices_number(k).1,
+        |s, k| s.polygon_vertices(k).len() as u64,
+    );
+    reads.add(
+        "bounds",
+        ids,
+        |s, _| mixed_floats(s.bounds().1),
+        |s, _| mixed_floats(s.inner_bounds().1),
+        |s, _| mixed_floats(four(s.bounds())),
+    );
+    reads.add(
+        "width",
+        ids,
+        |s, _| s.width().1.to_bits(),
+        |s, _| s.inner_width().1.to_bits(),
+        |s, _| s.width().to_bits(),
+    );
+    reads.add(
+        "height",
+        ids,
+        |s, _| s.height().1.to_bits(),
+        |s, _| s.inner_height().1.to_bits(),
+        |s, _| s.height().to_bits(),
+    );
+    reads.add(
+        "dims",
+        ids,
+        |s, _| mixed(s.dims().1.map(u64::from)),
+        |s, _| mixed(s.inner_dims().1.map(u64::from)),
+        |s, _| {
+            let (cols, rows) = s.grid().dims();
+            mixed([cols as u64, rows as u64])
+        },
+    );
 }

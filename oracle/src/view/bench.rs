@@ -4,11 +4,12 @@
 use crate::lent::{Cone, Entries, Lent, Work, room_for};
 use crate::scene::given::{self, Given};
 use crate::sites::Plan;
+use crate::util::arena;
 use crate::util::rng::SplitMix64;
 use crate::util::timing::{Bench, Limit};
 use plain::{Scene, SceneConfig, Vec2, ViewCone, VisibilityOptions, compute_visibility};
 use std::cell::RefCell;
-use std::f64::consts::FRAC_PI_2;
+use std::f64::consts::{FRAC_PI_2, TAU};
 
 const SIZES: [usize; 4] = [100, 500, 2_000, 4_096];
 const SIDE: f64 = 2_000.0;
@@ -107,6 +108,16 @@ fn views(
         inner,
         rust,
     );
+    // The Rust allocates its lists, ours are lent: on small sites that is some of its time.
+    if fov > TAU {
+        table.add_few(
+            &format!("outline without the table test, the Rust's allocation free, {what}"),
+            Limit::None,
+            &posts,
+            inner,
+            |p| arena::free(|| rust(p)),
+        );
+    }
     let ours = |p: [f64; 3]| {
         site.outline(cone(p), TOLERANCE, needs, &mut work.borrow_mut())
             .1[2]

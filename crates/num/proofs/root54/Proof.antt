@@ -8,16 +8,16 @@ use Rattle.num.proofs.root54.Statement.{statement}
 use Rattle.num.proofs.root54.Tie as tie
 
 abbrev Inv-loop : tie.InvT-loop
-Inv-loop m t y0 y1 y2 y3 c₀ c = c ≤ 134217727
+Inv-loop m t y0 y1 y2 c₀ c = c ≤ 134217727
 
 abbrev μ-loop : tie.MeasureT-loop
-μ-loop m t y0 y1 y2 y3 c₀ c = c
+μ-loop m t y0 y1 y2 c₀ c = c
 
 abbrev Inv-loop2 : tie.InvT-loop2
-Inv-loop2 m t y0 y1 y2 y3 c₀ c = (c ≤ 134217727) × (c * c ≤ m)
+Inv-loop2 m t y0 y1 y2 c₀ c = (c ≤ 134217727) × (c * c ≤ m)
 
 abbrev μ-loop2 : tie.MeasureT-loop2
-μ-loop2 m t y0 y1 y2 y3 c₀ c = 134217727 - c
+μ-loop2 m t y0 y1 y2 c₀ c = 134217727 - c
 
 nearest-u64-to-f64-requires :
     tie.Need-nearest-u64-to-f64-requires Inv-loop μ-loop Inv-loop2 μ-loop2

@@ -1,7 +1,6 @@
 -- `cast_all`: the samples before i have their answers. Assumes nothing.
 use Prim.Native.Nat.{_-_}
 use Rattle.rays.proofs.Answers.{Answered, answered-none, answer-place, answered-more, answered-all}
-use borrow.Author.Needs.{needs}
 use native.Mathlib.Omega.{arith}
 use Rattle.rays.proofs.cast_all.Statement.{statement}
 use Rattle.rays.proofs.cast_all.Tie as tie
@@ -18,26 +17,23 @@ loop-holds c =
     answered-none (a .args .k) (a .args .view) (a .args .x) (a .args .n) (a .args .floats .now) (a .args .words .now) (a .pre)
 
 cast-one-requires : tie.Need-cast-one-requires Inv-loop μ-loop
-cast-one-requires c κs = search needs
-
-put-hit-requires : tie.Need-put-hit-requires Inv-loop μ-loop
-put-hit-requires c κs =
-    let a = c .before .before .before .before .before .before .before .before .before in
-    let l = c .before .before .before .before .before .before .loop in
+cast-one-requires c κs =
+    let a = c .before .before .before .before .before .before in
+    let l = c .before .before .before .loop in
     answer-place (a .args .k) (a .args .view) (a .args .x) (a .args .n) (a .args .floats .now) (a .args .words .now) (a .pre) (l .floats) (l .words) (l .i) (l .inv) (omega arith)
 
 add-i : tie.Need-add-i Inv-loop μ-loop
-add-i c = omega (arith, c .before .before .before .before .before .before .before .before .before .before .before .before .before .before .fits)
+add-i c = omega (arith, c .before .before .before .before .before .before .before .before .before .before .before .fits)
 
 loop-less : tie.Need-loop-less Inv-loop μ-loop
 loop-less c = omega arith
 
 loop-again : tie.Need-loop-again Inv-loop μ-loop
 loop-again c =
-    let a = c .before .before .before .before .before .before .before .before .before .before .before .before .before .before in
-    let l = c .before .before .before .before .before .before .before .before .before .before .before .loop in
-    let r = c .before .before .before .before .put-hit in
-    answered-more (a .args .k) (a .args .view) (a .args .x) (a .args .n) (a .args .floats .now) (a .args .words .now) (a .pre) (l .floats) (l .words) (l .i) (l .inv) (c .before .before .before .before .before .before .before .before .before .before .loop-test .taken) (c .before .before .before .before .before .before .before .cast-one .result) (c .before .before .before .before .before .before .before .cast-one .ensures) (r .last .1 .0) (r .last .1 .1 .0) (r .ensures)
+    let a = c .before .before .before .before .before .before .before .before .before .before .before in
+    let l = c .before .before .before .before .before .before .before .before .loop in
+    let r = c .before .before .before .before .cast-one in
+    answered-more (a .args .k) (a .args .view) (a .args .x) (a .args .n) (a .args .floats .now) (a .args .words .now) (a .pre) (l .floats) (l .words) (l .i) (l .inv) (c .before .before .before .before .before .before .before .loop-test .taken) (r .last .1 .1 .1 .0) (r .last .1 .1 .1 .1 .0) (r .ensures)
 
 same-length : tie.Need-same-length Inv-loop μ-loop
 same-length c = c .before .loop .inv .floats .long
@@ -59,7 +55,6 @@ cast-all-spec =
     μ-loop
     loop-holds
     cast-one-requires
-    put-hit-requires
     add-i
     loop-less
     loop-again

@@ -1,5 +1,7 @@
--- `cast_one`: the cast along the sample's angle. Assumes nothing.
-use Rattle.rays.proofs.Ways.{cast-is}
+-- `cast_one`: the cast along the sample's angle, written with its direction. Assumes nothing.
+use mathlib.Core.Path.{_∙_}
+use Rattle.rays.proofs.Answers.{answer-put}
+use native.Mathlib.Omega.{arith}
 use borrow.Author.Needs.{needs}
 use Rattle.rays.proofs.cast_one.Statement.{statement}
 use Rattle.rays.proofs.cast_one.Tie as tie
@@ -13,8 +15,37 @@ from-angle-requires c κs = search needs
 cast-requires : tie.Need-cast-requires
 cast-requires c κs = search needs
 
+put-hit-requires : tie.Need-put-hit-requires
+put-hit-requires c κs = c .before .before .before .before .before .before .before .before .before .before .before .before .pre
+
+put-dir-requires : tie.Need-put-dir-requires
+put-dir-requires c κs = (omega (arith, c .before .before .before .before .before .put-hit .ensures .floats .long, c .before .before .before .before .before .before .before .before .before .before .before .before .before .before .before .before .before .before .pre .fit .floats-fit), c .before .before .before .before .before .before .before .before .before .before .before .before .before .before .before .before .before .before .pre .below)
+
+same-length : tie.Need-same-length
+same-length c = c .before .before .put-dir .ensures .floats .long ∙ c .before .before .before .before .before .before .before .before .put-hit .ensures .floats .long
+
+same-length-2 : tie.Need-same-length-2
+same-length-2 c = c .before .before .before .before .before .before .before .before .put-hit .ensures .words .long
+
 returns : tie.Need-returns
-returns c = cast-is _ _ _ (c .before .before .before .sample-at .ensures) (c .before .from-angle .ensures) (c .cast .ensures)
+returns c =
+    let a = c .before .before .before .before .before .before .before .before .before .before .before .before .before .before .before .before .before .before .before .before .before in
+    let s = c .before .before .before .before .before .before .before .before .before .before .before .before .before .before .before .before .sample-at in
+    let d = c .before .before .before .before .before .before .before .before .before .before .before .before .before .before .from-angle in
+    let h = c .before .before .before .before .before .before .before .before .before .before .before .cast in
+    let p = c .before .before .before .before .before .before .before .before .put-hit in
+    let q = c .before .before .put-dir in
+    answer-put (a .args .k) (a .args .view) (a .args .x) (a .args .i) (a .args .floats .now) (a .args .words .now) (a .pre .below) (s .result) (s .ensures) (d .result) (d .ensures) (h .result) (h .ensures) (p .last .1 .0) (p .last .1 .1 .0) (p .ensures) (q .last .1 .0) (q .ensures)
 
 pub cast-one-spec : {M : Type 1} → statement M
-cast-one-spec = tie.close (tie.spec sample-at-requires from-angle-requires cast-requires returns)
+cast-one-spec =
+    tie.close
+    (tie.spec
+    sample-at-requires
+    from-angle-requires
+    cast-requires
+    put-hit-requires
+    put-dir-requires
+    same-length
+    same-length-2
+    returns)

@@ -1,27 +1,22 @@
--- `point`: the operations of the Rust, in its order.
+-- `point`: the point along the angle's direction.
 use mathlib.Core.Path.{_∙_, ap}
-use lib.Ieee.{Float}
-use Rattle.num.specs.Ops.{_⊕_}
-use Rattle.cone.specs.Cone.{rimOf}
-use Rattle.refining.specs.Refine.{pointOf}
+use Rattle.geom.specs.declared.Vec2.{Vec2}
+use Rattle.refining.specs.Refine.{alongOf}
+use Rattle.refining.proofs.Ways.{along-is}
 use borrow.Author.Needs.{needs}
 use Rattle.refining.proofs.point.Statement.{statement}
 use Rattle.refining.proofs.point.Tie as tie
 
-reach-requires : tie.Need-reach-requires
-reach-requires c κs = search needs
+from-angle-requires : tie.Need-from-angle-requires
+from-angle-requires c κs = search needs
 
-rim-requires : tie.Need-rim-requires
-rim-requires c κs = search needs
+point-along-requires : tie.Need-point-along-requires
+point-along-requires c κs = search needs
 
 returns : tie.Need-returns
-unfolding pointOf
-returns c = c .rim .ensures ∙ ap (λ (t : Float). rimOf (c .before .before .before .before .args .view .o) t (c .before .before .before .before .args .view .start ⊕ c .before .before .before .before .args .angle)) (c .before .before .reach .ensures)
+returns c =
+    let a = c .before .before .before .args in
+    c .point-along .ensures ∙ ap (λ (d : Vec2). alongOf (a .view) d (a .hit)) (c .before .from-angle .ensures) ∙ along-is (a .view) (a .angle) (a .hit)
 
 pub point-spec : {M : Type 1} → statement M
-point-spec =
-    tie.close
-    (tie.spec
-    reach-requires
-    rim-requires
-    returns)
+point-spec = tie.close (tie.spec from-angle-requires point-along-requires returns)

@@ -13,8 +13,8 @@ wide-requires c κs = search needs
 distances-f-requires : tie.Need-distances-f-requires
 distances-f-requires c κs = search needs
 
-floats-for-requires : tie.Need-floats-for-requires
-floats-for-requires c κs = search needs
+dirs-f-requires : tie.Need-dirs-f-requires
+dirs-f-requires c κs = search needs
 
 mul-put64 : tie.Need-mul-put64
 mul-put64 c = search needs
@@ -81,7 +81,7 @@ returns c =
     let s = c .before .before .before .before .before .before .before .before .before .before .before .before .before .before .before .before .before in
     let at = c .before .before .before .before .before .before .samples-w .result + 4 * c .before .before .before .before .before .before .before .before .before .before .before .before .before .before .wide .result + 2 in
     hit-put (s .args .k) (s .args .i) (s .args .floats .now) (s .args .words .now) (s .args .h) _ _ (s .pre .below)
-    (cell-laid (s .args .floats .now) (c .before .before .before .before .before .before .before .before .before .put64 .last .0) _ (c .before .before .before .before .before .before .before .before .before .before .before .before .before .distances-f .result) (c .before .before .before .before .before .before .before .before .before .before .before .before .floats-for .result) (c .before .before .before .before .before .before .before .before .before .before .before .before .before .before .wide .result) _ (rw (c .before .before .before .before .before .before .before .before .before .before .distance-of .ensures) at (c .before .before .before .before .before .before .before .before .before .put64 .ensures)) (omega arith) (omega arith) (omega arith))
+    (cell-laid (s .args .floats .now) (c .before .before .before .before .before .before .before .before .before .put64 .last .0) _ (c .before .before .before .before .before .before .before .before .before .before .before .before .before .distances-f .result) (c .before .before .before .before .before .before .before .before .before .before .before .before .dirs-f .result) (c .before .before .before .before .before .before .before .before .before .before .before .before .before .before .wide .result) _ (rw (c .before .before .before .before .before .before .before .before .before .before .distance-of .ensures) at (c .before .before .before .before .before .before .before .before .before .put64 .ensures)) (omega arith) (omega arith) (omega arith))
     (row-laid (s .args .words .now) (c .before .before .put-two .last .0) _ at (at + 2) 2 _ (rw (c .before .before .before .before .tag-of .ensures, c .before .before .before .number-of .ensures) at (c .before .before .put-two .ensures)) (omega arith) refl (omega (arith, c .before .before .before .before .before .before .samples-w .ensures, c .before .before .before .before .before .before .before .before .before .before .before .before .before .before .wide .ensures, s .pre .fit .words-fit, s .pre .below)) refl)
 
 pub put-hit-spec : {M : Type 1} → statement M
@@ -90,7 +90,7 @@ put-hit-spec =
     (tie.spec
     wide-requires
     distances-f-requires
-    floats-for-requires
+    dirs-f-requires
     mul-put64
     sub-put64
     part-put64-start

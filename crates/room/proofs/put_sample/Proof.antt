@@ -6,7 +6,7 @@ use lib.ListN.{length}
 use native.Mathlib.Omega.{arith}
 use borrow.Rule.Slice.PartMut.{putMid}
 use Rattle.lists.proofs.Only.{Laid}
-use Rattle.room.specs.Layout.{samplesF, distancesF, floatsFor}
+use Rattle.room.specs.Layout.{samplesF, distancesF, dirsF, floatsFor}
 use Rattle.room.proofs.Puts.{cell-laid, row-laid, sample-put}
 use borrow.Author.Needs.{needs}
 use Rattle.room.proofs.put_sample.Statement.{statement}
@@ -21,8 +21,8 @@ samples-f-requires c κs = search needs
 distances-f-requires : tie.Need-distances-f-requires
 distances-f-requires c κs = search needs
 
-floats-for-requires : tie.Need-floats-for-requires
-floats-for-requires c κs = search needs
+dirs-f-requires : tie.Need-dirs-f-requires
+dirs-f-requires c κs = search needs
 
 mul-put64 : tie.Need-mul-put64
 mul-put64 c = search needs
@@ -79,7 +79,7 @@ part-put-four-start : tie.Need-part-put-four-start
 part-put-four-start c = search needs
 
 part-put-four-end : tie.Need-part-put-four-end
-part-put-four-end c = search needs
+part-put-four-end c = omega (arith, c .samples-w .ensures, c .before .before .before .before .before .before .before .before .before .before .before .before .before .wide .ensures, c .before .before .before .before .before .before .before .before .before .before .before .before .before .before .before .before .pre .fit .words-fit, c .before .before .before .before .before .before .before .before .before .before .before .before .before .before .before .before .pre .below)
 
 tag-of-requires : tie.Need-tag-of-requires
 tag-of-requires c κs = search needs
@@ -109,8 +109,8 @@ returns c =
     let from-is : from ≡ samplesF k = c .before .before .before .before .before .before .before .before .before .before .before .before .before .before .before .before .before .before .samples-f .ensures in
     let mid = c .before .before .before .before .before .before .before .before .before .before .before .before .before .before .before .before .before .distances-f .result in
     let mid-is : mid ≡ distancesF k = c .before .before .before .before .before .before .before .before .before .before .before .before .before .before .before .before .before .distances-f .ensures in
-    let to = c .before .before .before .before .before .before .before .before .before .before .before .before .before .before .before .before .floats-for .result in
-    let to-is : to ≡ floatsFor k = c .before .before .before .before .before .before .before .before .before .before .before .before .before .before .before .before .floats-for .ensures in
+    let to = c .before .before .before .before .before .before .before .before .before .before .before .before .before .before .before .before .dirs-f .result in
+    let to-is : to ≡ dirsF k = c .before .before .before .before .before .before .before .before .before .before .before .before .before .before .before .before .dirs-f .ensures in
     let at = c .before .before .before .before .before .before .samples-w .result + 4 * n in
     let at-is = c .before .before .before .before .before .before .samples-w .ensures in
     let below : i < k .samples = a .pre .below in
@@ -129,7 +129,7 @@ put-sample-spec =
     wide-requires
     samples-f-requires
     distances-f-requires
-    floats-for-requires
+    dirs-f-requires
     mul-put64
     sub-put64
     part-put64-start

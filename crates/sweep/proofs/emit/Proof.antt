@@ -1,12 +1,12 @@
 -- `emit`: the owner and the point of a hit, or the point of a miss.
-use Rattle.sweep.proofs.Ways.{emit-hit, emit-miss, emitted-hit, emitted-miss}
+use Rattle.sweep.proofs.Ways.{emit-point, emit-hit, emit-miss, emitted-hit, emitted-miss}
 use native.Mathlib.Omega.{arith}
 use borrow.Author.Needs.{needs}
 use Rattle.sweep.proofs.emit.Statement.{statement}
 use Rattle.sweep.proofs.emit.Tie as tie
 
-point-requires : tie.Need-point-requires
-point-requires c κs = search needs
+point-along-requires : tie.Need-point-along-requires
+point-along-requires c κs = search needs
 
 enum-known-hit : tie.Need-enum-known-hit
 enum-known-hit c = search needs
@@ -30,19 +30,19 @@ same-length-2 : tie.Need-same-length-2
 same-length-2 c = c .before .before .before .before .before .before .own .kept .1 .1 .0
 
 returns : tie.Need-returns
-returns c = (emit-hit _ _ _ _ _ _ _ (c .before .before .before .before .before .before .before .before .before .before .before .point .ensures) (c .before .before .before .before .before .before .before .before .before .hit .given .1) (c .before .before .before .before .before .before .own .ensures .0) (c .before .before .push .ensures .0), emitted-hit (c .before .before .before .before .before .before .own .ensures .1) (c .before .before .push .ensures .1))
+returns c = (emit-hit _ _ _ _ _ _ _ (emit-point (c .before .before .before .before .before .before .before .before .before .before .before .before .before .before .before .before .args .view) (c .before .before .before .before .before .before .before .before .before .before .before .before .before .before .before .before .args .a) (c .before .before .before .before .before .before .before .before .before .before .before .before .before .before .before .before .pre .2) (c .before .before .before .before .before .before .before .before .before .before .before .point-along .ensures)) (c .before .before .before .before .before .before .before .before .before .hit .given .1) (c .before .before .before .before .before .before .own .ensures .0) (c .before .before .push .ensures .0), emitted-hit (c .before .before .before .before .before .before .own .ensures .1) (c .before .before .push .ensures .1))
 
 same-length-3 : tie.Need-same-length-3
 same-length-3 c = c .before .before .push2 .kept .0
 
 returns-2 : tie.Need-returns-2
-returns-2 c = (emit-miss _ _ _ _ _ _ _ (c .before .before .before .before .before .before .point .ensures) (c .before .before .before .before .enum-told .given .1) (c .before .before .push2 .ensures .0), emitted-miss (c .before .before .before .before .before .before .before .before .before .before .before .pre .1) (c .before .before .push2 .ensures .1))
+returns-2 c = (emit-miss _ _ _ _ _ _ _ (emit-point (c .before .before .before .before .before .before .before .before .before .before .before .args .view) (c .before .before .before .before .before .before .before .before .before .before .before .args .a) (c .before .before .before .before .before .before .before .before .before .before .before .pre .2) (c .before .before .before .before .before .before .point-along .ensures)) (c .before .before .before .before .enum-told .given .1) (c .before .before .push2 .ensures .0), emitted-miss (c .before .before .before .before .before .before .before .before .before .before .before .pre .1) (c .before .before .push2 .ensures .1))
 
 pub emit-spec : {M : Type 1} → statement M
 emit-spec =
     tie.close
     (tie.spec
-    point-requires
+    point-along-requires
     enum-known-hit
     own-requires
     push-requires

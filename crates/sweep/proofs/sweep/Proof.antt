@@ -10,7 +10,7 @@ begin-requires : tie.Need-begin-requires
 begin-requires c κs = search needs
 
 walk-requires : tie.Need-walk-requires
-walk-requires c κs = record { long = c .before .before .before .before .before .before .before .before .before .before .before .before .before .before .pre; points = omega (arith, c .before .before .before .before .before .begin .ensures .1 .within, c .before .before .before .before .before .begin .kept .0); owners = c .before .before .before .before .before .begin .ensures .1 .owners; casts = c .before .before .before .before .before .begin .ensures .1 .refinements }
+walk-requires c κs = (record { long = c .before .before .before .before .before .before .before .before .before .before .before .before .before .before .pre .0; points = omega (arith, c .before .before .before .before .before .begin .ensures .1 .within, c .before .before .before .before .before .begin .kept .0); owners = c .before .before .before .before .before .begin .ensures .1 .owners; casts = c .before .before .before .before .before .begin .ensures .1 .refinements }, c .before .before .before .before .before .before .before .before .before .before .before .before .before .before .pre .1)
 
 same-length : tie.Need-same-length
 same-length c = c .before .before .before .before .before .before .walk .kept .1 .1 .1 .1 .1 .1 .0

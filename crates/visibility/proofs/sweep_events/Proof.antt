@@ -1,4 +1,5 @@
 -- `sweep_events`: no event, a list that is over, or the outline. Assumes nothing.
+use Rattle.sweep.proofs.Front.{directed-front}
 use Rattle.visibility.proofs.Showing.{events-none, events-over, trace-eight, trace-seen}
 use Rattle.visibility.specs.Drawing.{request}
 use lib.ListN.{length}
@@ -39,7 +40,10 @@ cast-trace : tie.Need-cast-trace
 cast-trace c = omega (arith, c .before .before .before .before .before .before .before .before .cast-rays .ensures .few (c .before .before .before .if2 .left), c .before .before .before .before .before .before .before .before .before .before .before .before .before .before .before .before .before .before .before .before .good .0)
 
 trace-requires : tie.Need-trace-requires
-trace-requires c κs = omega (arith, c .before .before .before .before .before .before .before .before .before .before .before .before .cast-rays .kept .1 .1 .1 .1 .1 .0, c .before .before .before .before .before .before .before .before .before .before .before .before .before .before .before .before .before .before .before .before .before .before .before .before .pre .fit .words-fit)
+trace-requires c κs =
+    let r = c .before .before .before .before .before .before .before .before .before .before .before .before .cast-rays in
+    let no = c .before .before .before .before .before .before .before .if2 .left in
+    (omega (arith, c .before .before .before .before .before .before .before .before .before .before .before .before .cast-rays .kept .1 .1 .1 .1 .1 .0, c .before .before .before .before .before .before .before .before .before .before .before .before .before .before .before .before .before .before .before .before .before .before .before .before .pre .fit .words-fit), directed-front (c .before .before .before .before .before .before .before .before .before .before .before .before .before .before .before .before .before .before .before .before .before .before .before .before .args .k) (r .last .1 .1 .1 .1 .1 .0) (r .last .1 .1 .1 .1 .0) (r .result .samples) (r .ensures .few no) (r .ensures .below no) _ (r .ensures .dirs no))
 
 same-length-4 : tie.Need-same-length-4
 same-length-4 c = c .before .before .before .before .before .before .before .before .before .before .before .before .before .before .before .before .before .before .before .before .cast-rays .kept .1 .1 .1 .1 .0

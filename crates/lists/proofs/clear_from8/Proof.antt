@@ -1,11 +1,11 @@
--- `clear_from8`: zero from n on, and nothing else. Assumes nothing.
+-- `lists::clear_from8` meets its contract, as `clear_from32`. Assumes nothing.
 use Prim.Native.Nat.{ℕ, _-_}
 use lib.ListN.{length}
 use Rattle.lists.proofs.Zeros.{Clearing, clear-none, clear-more, clear-all}
 use borrow.Author.Needs.{needs}
 use native.Mathlib.Omega.{arith}
-use Rattle.planner.proofs.clear_from8.Statement.{statement}
-use Rattle.planner.proofs.clear_from8.Tie as tie
+use Rattle.lists.proofs.clear_from8.Statement.{statement}
+use Rattle.lists.proofs.clear_from8.Tie as tie
 
 abbrev Inv-loop : tie.InvT-loop
 Inv-loop s₀ n i₀ s i = Clearing {A = ℕ} 0 s₀ n s i
