@@ -268,6 +268,41 @@ macro_rules! ask {
 pub const PATTERN: u32 = 0xA5A5_A5A5;
 const FLOAT: f64 = 0.123_456_789;
 
+/// Questions that only read: with the tests, by the first function, and without them, by the second.
+/// Each answers its status and a value, which is lent filled with a pattern.
+macro_rules! reads {
+    ($($name:ident, $inner:ident($($asked:pat, $kind:ty => $($given:expr),*)?) -> $value:ty = $pattern:expr,
+        $with:ident, $without:ident;)*) => {
+        impl Lent {
+            $(
+                pub fn $name(&self $(, $asked: $kind)?) -> (u32, $value) {
+                    let mut value = $pattern;
+                    (ask!($with, self $($(, $given)*)?, &mut value), value)
+                }
+
+                pub fn $inner(&self $(, $asked: $kind)?) -> (u32, $value) {
+                    let mut value = $pattern;
+                    (ask!($without, self $($(, $given)*)?, &mut value), value)
+                }
+            )*
+        }
+    };
+}
+
+reads! {
+    items_at_number, inner_items_at_number((x, y), (f64, f64) => x, y) -> u64 = u64::MAX,
+        bf_scene_items_at_number, bf_inner_site_items_at_number;
+    edge, inner_edge(edge, u32 => edge) -> [f64; 4] = [FLOAT; 4], bf_scene_edge, bf_inner_edge;
+    edge_end, inner_edge_end(edge, u32 => edge) -> u32 = PATTERN, bf_scene_edge_end, bf_inner_edge_end;
+    edge_owner, inner_edge_owner(edge, u32 => edge) -> u32 = PATTERN, bf_scene_edge_owner, bf_inner_edge_owner;
+    polygon_vertices_number, inner_polygon_vertices_number(id, u32 => id) -> u64 = u64::MAX,
+        bf_scene_polygon_vertices_number, bf_inner_polygon_vertices_number;
+    bounds, inner_bounds() -> [f64; 4] = [FLOAT; 4], bf_scene_bounds, bf_inner_bounds;
+    width, inner_width() -> f64 = FLOAT, bf_scene_width, bf_inner_width;
+    height, inner_height() -> f64 = FLOAT, bf_scene_height, bf_inner_height;
+    dims, inner_dims() -> [u32; 2] = [PATTERN; 2], bf_scene_dims, bf_inner_dims;
+}
+
 impl Lent {
     /// Tables of these lengths, filled with a pattern.
     pub fn blank(rooms: Rooms) -> Self {
@@ -368,15 +403,6 @@ impl Lent {
         (status, tally)
     }
 
-    /// The status and the number of ids.
-    pub fn items_at_number(&self, (x, y): (f64, f64)) -> (u32, u64) {
-        let mut number = u64::MAX;
-        (
-            ask!(bf_scene_items_at_number, self, x, y, &mut number),
-            number,
-        )
-    }
-
     /// The i-th id of the point's cell, 0 past the last and on refusal.
     pub fn item_at(&self, (x, y): (f64, f64), i: usize) -> u32 {
         ask!(bf_scene_item_at, self, x, y, i)
@@ -438,21 +464,6 @@ impl Lent {
         ask!(bf_inner_hits, self, asked.as_ptr(), asked.len())
     }
 
-    pub fn edge(&self, edge: u32) -> (u32, [f64; 4]) {
-        let mut ends = [FLOAT; 4];
-        (ask!(bf_scene_edge, self, edge, &mut ends), ends)
-    }
-
-    pub fn edge_end(&self, edge: u32) -> (u32, u32) {
-        let mut end = PATTERN;
-        (ask!(bf_scene_edge_end, self, edge, &mut end), end)
-    }
-
-    pub fn edge_owner(&self, edge: u32) -> (u32, u32) {
-        let mut owner = PATTERN;
-        (ask!(bf_scene_edge_owner, self, edge, &mut owner), owner)
-    }
-
     /// First point, number of points and box.
     pub fn polygon(&self, id: u32) -> (u32, [u32; 2], [f64; 4]) {
         let (mut place, mut b) = ([PATTERN; 2], [FLOAT; 4]);
@@ -460,98 +471,16 @@ impl Lent {
         (status, place, b)
     }
 
-    /// The status and how many points a polygon has.
-    pub fn polygon_vertices_number(&self, id: u32) -> (u32, u64) {
-        let mut number = u64::MAX;
-        (
-            ask!(bf_scene_polygon_vertices_number, self, id, &mut number),
-            number,
-        )
-    }
-
-    /// The i-th number of a polygon's points, NaN past the last and on refusal.
-    pub fn polygon_vertex(&self, id: u32, i: usize) -> f64 {
-        ask!(bf_scene_polygon_vertex, self, id, i)
-    }
-
-    pub fn bounds(&self) -> (u32, [f64; 4]) {
-        let mut b = [FLOAT; 4];
-        (ask!(bf_scene_bounds, self, &mut b), b)
-    }
-
-    pub fn width(&self) -> (u32, f64) {
-        let mut width = FLOAT;
-        (ask!(bf_scene_width, self, &mut width), width)
-    }
-
-    pub fn height(&self) -> (u32, f64) {
-        let mut height = FLOAT;
-        (ask!(bf_scene_height, self, &mut height), height)
-    }
-
-    /// Columns and rows.
-    pub fn dims(&self) -> (u32, [u32; 2]) {
-        let mut dims = [PATTERN; 2];
-        (ask!(bf_scene_dims, self, &mut dims), dims)
-    }
-
-    // ---- the questions that only read, without the tests: the status is 0
-
-    pub fn inner_items_at_number(&self, (x, y): (f64, f64)) -> (u32, u64) {
-        let mut number = u64::MAX;
-        (
-            ask!(bf_inner_site_items_at_number, self, x, y, &mut number),
-            number,
-        )
-    }
-
-    pub fn inner_edge(&self, edge: u32) -> (u32, [f64; 4]) {
-        let mut ends = [FLOAT; 4];
-        (ask!(bf_inner_edge, self, edge, &mut ends), ends)
-    }
-
-    pub fn inner_edge_end(&self, edge: u32) -> (u32, u32) {
-        let mut end = PATTERN;
-        (ask!(bf_inner_edge_end, self, edge, &mut end), end)
-    }
-
-    pub fn inner_edge_owner(&self, edge: u32) -> (u32, u32) {
-        let mut owner = PATTERN;
-        (ask!(bf_inner_edge_owner, self, edge, &mut owner), owner)
-    }
-
+    /// The same without the tests.
     pub fn inner_polygon(&self, id: u32) -> (u32, [u32; 2], [f64; 4]) {
         let (mut place, mut b) = ([PATTERN; 2], [FLOAT; 4]);
         let status = ask!(bf_inner_polygon, self, id, &mut place, &mut b);
         (status, place, b)
     }
 
-    pub fn inner_polygon_vertices_number(&self, id: u32) -> (u32, u64) {
-        let mut number = u64::MAX;
-        (
-            ask!(bf_inner_polygon_vertices_number, self, id, &mut number),
-            number,
-        )
-    }
-
-    pub fn inner_bounds(&self) -> (u32, [f64; 4]) {
-        let mut b = [FLOAT; 4];
-        (ask!(bf_inner_bounds, self, &mut b), b)
-    }
-
-    pub fn inner_width(&self) -> (u32, f64) {
-        let mut width = FLOAT;
-        (ask!(bf_inner_width, self, &mut width), width)
-    }
-
-    pub fn inner_height(&self) -> (u32, f64) {
-        let mut height = FLOAT;
-        (ask!(bf_inner_height, self, &mut height), height)
-    }
-
-    pub fn inner_dims(&self) -> (u32, [u32; 2]) {
-        let mut dims = [PATTERN; 2];
-        (ask!(bf_inner_dims, self, &mut dims), dims)
+    /// The i-th number of a polygon's points, NaN past the last and on refusal.
+    pub fn polygon_vertex(&self, id: u32, i: usize) -> f64 {
+        ask!(bf_scene_polygon_vertex, self, id, i)
     }
 
     pub fn new_stamps(&self, marks: &mut [u32], epoch: &mut u32) -> u32 {
