@@ -21,7 +21,7 @@ const RUNS: Runs = Runs {
 /// The same where one run takes long.
 const FEW_RUNS: Runs = Runs {
     fewest: 11,
-    time: Duration::from_secs(1),
+    time: Duration::from_secs(3),
 };
 
 /// Inputs per run: too many for the branch predictor to learn by heart.
