@@ -66,6 +66,7 @@ fn groups() -> Vec<(&'static str, usize, Make)> {
     all.push(("triangles that cross each other", 2_000, crossing));
     all.push(("squares on a lattice, close together", 2_000, close_lattice));
     all.push(("1,000 to 4,096 polygons", 20, sites::many));
+    all.push(("4,096 polygons of 16 corners around a yard", 12, around));
     all
 }
 
@@ -93,6 +94,32 @@ pub fn close_lattice(r: &mut SplitMix64) -> Plan {
         rings: (0..up)
             .flat_map(|j| (0..across).map(move |i| square(i, j)))
             .collect(),
+    }
+}
+
+/// As many corners as a site may have, most of them on the side of the yard: there are more front edges
+/// than half of the most buckets, from where on the index counts its references first.
+fn around(r: &mut SplitMix64) -> Plan {
+    let (middle, radius) = (500.0, r.between(460.0, 485.0));
+    let (width, depth) = (r.between(1.5, 3.0), r.between(0.5, 2.0));
+    let ring = |k: usize| {
+        let (sin, cos) = (k as f64 * TAU / 4_096.0).sin_cos();
+        let at = |along: f64, out: f64| {
+            (
+                middle + out * cos - along * sin,
+                middle + out * sin + along * cos,
+            )
+        };
+        let near = (0..14).map(|j| {
+            let u = f64::from(j) / 13.0 - 0.5;
+            at(u * width, radius - width / 4.0 * (1.0 - 4.0 * u * u))
+        });
+        let far = [0.5, -0.5].map(|u| at(u * width, radius + depth));
+        near.chain(far).collect()
+    };
+    Plan {
+        size: (2.0 * middle, 2.0 * middle),
+        rings: (0..4_096).map(ring).collect(),
     }
 }
 
@@ -326,6 +353,7 @@ struct Reach {
     visible: u64,
     refinements: u64,
     corners: u64,
+    wide: u64,
     wraps: u64,
     most: Entries,
 }
@@ -565,6 +593,7 @@ impl Reach {
         self.points += s.answer[2];
         self.visible += s.answer[3];
         self.refinements += s.answer[8];
+        self.wide += u64::from(s.answer[5] >= 32_768);
         self.corners += u64::from(s.needs[3]);
         for (most, need) in self.most.iter_mut().zip(s.needs) {
             *most = need.max(*most);
@@ -582,6 +611,7 @@ impl Reach {
             ("visible ids", self.visible),
             ("refinements", self.refinements),
             ("kept-aside corners", self.corners),
+            ("of 32,768 front edges or more", self.wide),
             ("epochs that wrapped", self.wraps),
         ] {
             table.row(vec![what.to_string(), count(n)]);
