@@ -80,10 +80,6 @@ width-few m s i = omega (arith, i .first-in, i .second-in)
 -- ---- the edges as they stand
 
 module _ (spans : ℕ → Spans) (m : ℕ) (inside : (i : ℕ) → Inside m (spans i)) where
-  pub none-past : (n b : ℕ) → m ≤ b → sumTo (λ i. edgeBits (spans i) b) n ≡ 0
-  none-past zero b h = refl
-  none-past (suc n) b h = omega (arith, none-past n b h, bits-past m (spans n) b (inside n) h)
-
   -- as many as the stretches have buckets, all told
   pub many-refs : (n : ℕ) → sumTo (λ b. sumTo (λ i. edgeBits (spans i) b) n) m ≡ sumTo (λ i. edgeRefs (spans i)) n
   many-refs zero = sumTo-zero m
@@ -111,6 +107,14 @@ module _ {A : Type 0} (spans : A → Spans) where
         length-consIf (covers (spans e .first) b) e (consIf (covers (spans e .second) b) e (inBucket spans es b)),
         length-consIf (covers (spans e .second) b) e (inBucket spans es b),
       )
+
+  -- past the buckets there are none
+  pub none-past : (m : ℕ) → ((e : A) → Inside m (spans e)) → (es : List A) (b : ℕ) → m ≤ b → inBucket spans es b ≡ []
+  none-past m i [] b h = refl
+  none-past m i (e ∷ es) b h =
+      let f = within-out (spans e .first .from) (spans e .first .to) b (omega (arith, i e .first-in)) in
+      let g = within-out (spans e .second .from) (spans e .second .to) b (omega (arith, i e .second-in)) in
+      rw (f, g) (none-past m i es b h)
 
   pub rest-few : (es : List A) (r b : ℕ) → length (inBucket spans (drop r es) b) ≤ length (inBucket spans es b)
   rest-few es zero b = omega arith

@@ -17,7 +17,7 @@ use Rattle.lists.proofs.Sums.{sumTo-ext}
 use Rattle.lists.proofs.Joined.{listed-ext, length-listed}
 use Rattle.lists.proofs.Members.{all-map}
 use Rattle.lists.proofs.Parts.{part-from, getD-part}
-use Rattle.lists.proofs.Only.{only-refl, only-part}
+use Rattle.lists.proofs.Only.{only-refl, only-trans, only-wider, only-part}
 use Rattle.sorts.specs.By.{keyOrder}
 use Rattle.sorts.specs.Sort.{sort}
 use Rattle.sorts.specs.Fronts.{Ordered}
@@ -33,7 +33,7 @@ use Rattle.index.specs.declared.Spans.{Spans}
 use Rattle.index.specs.Spans.{bucketsFor, headOf, spansOf, covers, edgeBits}
 use Rattle.index.specs.Angular.{inBucket, nearer, nearestFirst, Index, bucketEdges, indexOf, refsOf}
 use Rattle.index.specs.Stands.{refsAt, indexIn, Within, Ready, overOf, Builds}
-use Rattle.index.specs.Filling.{spansAt, orderIn, refsBy, manyBy, countTo, refsTo, Fillable, Held, Filled}
+use Rattle.index.specs.Filling.{spansAt, orderIn, refsBy, manyBy, countTo, refsTo, notesW, Fillable, Held, Filled}
 use Rattle.index.proofs.Buckets.{at-inside, many-refs, refs-few, length-bucket, map-bucket}
 
 -- what all of a list have, those of a bucket have
@@ -106,11 +106,11 @@ module _ (k : Rooms) (floats : List Float) (words : List ℕ) (n : ℕ) (total :
       ∙ ap (sumOver (λ i. edgeBits (spansAt k floats x total i) b)) order-is
       ∙ order-sum (λ i. edgeBits (spansAt k floats x total i) b) (part 0 (0 + n) floats) n
 
-  refs-are : refsTo k floats x total n ≡ refsOf total (edgesIn k floats words n)
+  -- so there are as many by the order as by the edges as they stand
+  pub refs-are : refsTo k floats x total n ≡ manyBy k floats x total (orderIn k w₁ n)
   refs-are =
       sym (many-refs (spansAt k floats x total) (x .buckets) (λ i. at-inside k floats x total i (some-few .0)) n)
       ∙ sym (sumTo-ext (λ b. length (refsBy k floats x total (orderIn k w₁ n) b)) (countTo k floats x total n) (x .buckets) (λ b l. alike b))
-      ∙ many-is
 
   -- so few edges have not too many
   pub not-many : n < 32768 → refsTo k floats x total n ≤ 4294967295
@@ -121,7 +121,7 @@ module _ (k : Rooms) (floats : List Float) (words : List ℕ) (n : ℕ) (total :
     over-by : overOf k (x .buckets) refs ≡ true → Builds k floats words n total (record { index = x; refs = refs; over = true }) w₁
     over-by e = record {
       head = hx;
-      refs = hr ∙ refs-are;
+      refs = hr ∙ refs-are ∙ many-is;
       over = sym e;
       stands = λ f. absurd (true≢false f);
       sound = λ f. absurd (true≢false f);
@@ -139,14 +139,14 @@ module _ (k : Rooms) (floats : List Float) (words : List ℕ) (n : ℕ) (total :
   -- ---- the starts fit
   module _ (fits : x .buckets < k .starts) where
     pub fillable : refsTo k floats x total n ≤ 4294967295 → Fillable k floats x total n w₁
-    fillable small = record { endable = record { ready = ready₁; some = some-few .0; starts-fit = fits; small = small }; alike = alike }
+    fillable small = record { notable = record { ready = ready₁; some = some-few .0; few = some-few .1 }; starts-fit = fits; small = omega (arith, small, refs-are) }
 
     module _ (r : Indexed) (w₂ : List ℕ) (f : Filled k floats x total n w₁ r w₂) where
       -- the index that stands in the room
       stands-in : Held k floats x total n w₁ w₂ → indexIn k floats w₂ x ≡ indexOf total (edgesIn k floats words n)
       unfolding indexIn indexOf made
       stands-in s =
-          let numbers : part (edgesW k) (nearestW k) w₂ ≡ part (edgesW k) (nearestW k) words = only-part (edgesW k) (nearestW k) (f .only) (inl (omega arith)) ∙ numbers₁ in
+          let numbers : part (edgesW k) (nearestW k) w₂ ≡ part (edgesW k) (nearestW k) words = only-part (edgesW k) (nearestW k) (f .only) (inl (omega arith)) ∙ only-part (edgesW k) (nearestW k) (f .noted) (inl (omega arith)) ∙ numbers₁ in
           ap (made x) (listed-ext (λ b. map (edgeAt k floats w₂) (refsAt k w₂ b)) (bucketEdges x total (edgesIn k floats words n)) (x .buckets)
           (λ b g. ap (map (edgeAt k floats w₂)) (s .blocks b g) ∙ bucket-read w₂ numbers b))
           ∙ ap (λ (h : AngularIndex). made h (listed (bucketEdges h total (edgesIn k floats words n)) (h .buckets))) head-is
@@ -165,11 +165,11 @@ module _ (k : Rooms) (floats : List Float) (words : List ℕ) (n : ℕ) (total :
           let e : r .index .buckets ≡ x .buckets = ap (λ (q : AngularIndex). q .buckets) (f .index) in
           record {
             head = f .index ∙ hx;
-            refs = f .refs ∙ refs-are;
+            refs = f .refs ∙ many-is;
             over = f .over ∙ ap (λ (t : Bool). t || ltb (k .refs) (r .refs)) (sym (le-ltb (k .starts) (r .index .buckets + 1) (omega arith)));
             stands = λ o. ap (indexIn k floats w₂) (f .index) ∙ stands-in (f .stands o);
             sound = λ o. subst (Within k w₂) (sym (f .index)) (sound-in (f .stands o));
-            between = w₁;
-            ordered = ordered;
+            between = f .between;
+            ordered = only-trans ordered (only-wider (nearestW k) (eventsW k) (omega arith) (le-refl _) (f .noted));
             filled = f .only;
           }

@@ -2,8 +2,10 @@
 pub mod Ways
 pub mod Walking
 pub mod Buckets
+pub mod Notes
 pub mod Casts
 pub mod Puts
+pub mod Strips
 pub mod Passes
 pub mod Fills
 pub mod Builds

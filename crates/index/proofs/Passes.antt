@@ -1,10 +1,10 @@
--- The two passes over the edges: counting, as they stand, and putting in, from the farthest to the nearest. Assumes nothing.
+-- The two passes over the edges, from the farthest to the nearest: counting, and putting in, a strip of buckets after the other. Assumes nothing.
 use mathlib.Core.Path.{_≡_, refl, sym, ap, _∙_, subst}
 use mathlib.Core.Logic.{⊎-elim}
+use mathlib.Core.Bool.{Bool, false}
 use mathlib.Core.List.{List, [], _∷_, _++_}
 use Prim.Native.Nat.{ℕ, suc, _+_, _-_, _≤_, _<_}
 use native.Mathlib.Nat.{le-refl}
-use native.Mathlib.Numerals.{add-one}
 use native.Mathlib.Omega.{arith}
 use lib.ListN.{length, getD, take, drop, length-drop, drop-of-length-le}
 use lib.Seq.{drop-drop, getD-take}
@@ -21,8 +21,9 @@ use Rattle.room.specs.Layout.{nearestW, startsW, refsW, wordsFor}
 use Rattle.index.specs.declared.AngularIndex.{AngularIndex}
 use Rattle.index.specs.declared.Spans.{Spans}
 use Rattle.index.specs.Spans.{covers, edgeBits}
-use Rattle.index.specs.Filling.{spansAt, orderIn, refsBy, manyBy, countTo, CountRoom, Counting, Counted, PutRoom, PutBoth, Putting, Placed}
+use Rattle.index.specs.Filling.{spansAt, orderIn, refsBy, manyBy, notesW, saidBy, Noted, cutBoth, CountRoom, Counting, Counted, PutRoom, PutBoth, Putting, Placed}
 use Rattle.index.proofs.Buckets.{Inside, at-inside, bits-past, bits-inside, length-more, rest-few, drop-down}
+use Rattle.index.proofs.Strips.{strip, strip-rest, strip-same, strip-next, strip-all, strip-more, strip-long, strip-few, cut-in}
 
 -- ---- the order of nearness
 pub order-long : (k : Rooms) (w : List ℕ) (n : ℕ) → n ≤ k .edges → wordsFor k ≤ length w → length (orderIn k w n) ≡ n
@@ -36,14 +37,28 @@ order-read : (k : Rooms) (w₀ w : List ℕ) (n r : ℕ) → n ≤ k .edges → 
 order-read k w₀ w n r few h l e =
     front-getD (startsW k) w w₀ (nearestW k + (r - 1)) 0 (omega arith) e ∙ sym (getD-part (nearestW k) (nearestW k + n) w₀ (r - 1) 0 (omega arith))
 
--- ---- one edge that is put in: s are its buckets and p the place of the order
+-- its notes stand there too: what one says are the edge's buckets
+pub said-here : (k : Rooms) (floats : List Float) (x : AngularIndex) (total : Float) (n : ℕ) (w₀ : List ℕ) → n ≤ k .edges → Noted k floats x total n w₀
+    → (w : List ℕ) (r : ℕ) → 0 < r → r ≤ n → (st : ℕ) → st ≡ startsW k → take st w ≡ take st w₀ → (p : ℕ) → p ≡ nearestW k → (q : ℕ) → q ≡ notesW k
+    → (s : Spans) → s ≡ saidBy (getD w (q + (r - 1)) 0) (spansAt k floats x total (getD w (p + (r - 1)) 0)) → s ≡ spansAt k floats x total (getD w (p + (r - 1)) 0)
+said-here k floats x total n w₀ few noted w r h l st hst front p hp q hq s hs =
+    let f : take (startsW k) w ≡ take (startsW k) w₀ = subst (λ (j : ℕ). take j w ≡ take j w₀) hst front in
+    let o : getD w (p + (r - 1)) 0 ≡ getD w₀ (nearestW k + (r - 1)) 0
+    = ap (λ (j : ℕ). getD w (j + (r - 1)) 0) hp ∙ front-getD (startsW k) w w₀ (nearestW k + (r - 1)) 0 (omega arith) f in
+    let m : getD w (q + (r - 1)) 0 ≡ getD w₀ (notesW k + (r - 1)) 0
+    = ap (λ (j : ℕ). getD w (j + (r - 1)) 0) hq ∙ front-getD (startsW k) w w₀ (notesW k + (r - 1)) 0 (omega arith) f in
+    hs ∙ ap (λ (j : ℕ). saidBy j (spansAt k floats x total (getD w (p + (r - 1)) 0))) m
+    ∙ ap (λ (j : ℕ). saidBy (getD w₀ (notesW k + (r - 1)) 0) (spansAt k floats x total j)) o
+    ∙ noted (r - 1) (omega arith) ∙ ap (spansAt k floats x total) (sym o)
+
+-- ---- one edge that is counted or put in: s are its buckets and p the place of the order
 module _ (k : Rooms) (floats : List Float) (x : AngularIndex) (total : Float) (n : ℕ) (w₀ : List ℕ) (few : n ≤ k .edges) (fit : wordsFor k ≤ length w₀) (some : 0 < x .buckets)
     (w : List ℕ) (r : ℕ) (h : 0 < r) (l : r ≤ n) (st : ℕ) (hst : st ≡ startsW k) (front : take st w ≡ take st w₀) (p : ℕ) (hp : p ≡ nearestW k)
     (s : Spans) (hs : s ≡ spansAt k floats x total (getD w (p + (r - 1)) 0)) where
   pub read : getD w (p + (r - 1)) 0 ≡ getD (orderIn k w₀ n) (r - 1) 0
   read = ap (λ (q : ℕ). getD w (q + (r - 1)) 0) hp ∙ order-read k w₀ w n r few h l (subst (λ (q : ℕ). take q w ≡ take q w₀) hst front)
 
-  pub same : s ≡ spansAt k floats x total (getD (orderIn k w₀ n) (r - 1) 0)
+  same : s ≡ spansAt k floats x total (getD (orderIn k w₀ n) (r - 1) 0)
   same = hs ∙ ap (spansAt k floats x total) read
 
   pub inside : Inside (x .buckets) s
@@ -69,41 +84,40 @@ module _ (k : Rooms) (floats : List Float) (x : AngularIndex) (total : Float) (n
   pub held-few : (b : ℕ) → edgeBits s b + length (refsBy k floats x total (drop r (orderIn k w₀ n)) b) ≤ length (refsBy k floats x total (orderIn k w₀ n) b)
   held-few b = omega (arith, grow b, rest-few (spansAt k floats x total) (orderIn k w₀ n) (r - 1) b)
 
-  -- and no more than all together
-  pub block : (b : ℕ) → b < x .buckets → sumTo (λ j. length (refsBy k floats x total (orderIn k w₀ n) j)) b + length (refsBy k floats x total (orderIn k w₀ n) b) ≤ manyBy k floats x total (orderIn k w₀ n)
-  block b g = sumTo-step (λ j. length (refsBy k floats x total (orderIn k w₀ n) j)) b (x .buckets) g
-
 -- ---- a rest that was lent from st on
 tail-is : (st : ℕ) (w : List ℕ) → midOf st (length w - st) w ≡ drop st w
 tail-is st w = part-rest st w
 
--- ---- the counting
-pub record Tallied (k : Rooms) (floats : List Float) (x : AngularIndex) (total : Float) (n st : ℕ) (w₀ w : List ℕ) (i : ℕ) : Type 0 where
-  pub few : i ≤ n
+-- ---- the counting: the edges from r on are counted
+pub record Tallied (k : Rooms) (floats : List Float) (x : AngularIndex) (total : Float) (n st : ℕ) (w₀ w : List ℕ) (r : ℕ) : Type 0 where
+  pub left : r ≤ n
   pub long : length w ≡ length w₀
   pub front : take st w ≡ take st w₀
-  pub counts : (b : ℕ) → getD (drop st w) b 0 ≡ getD (drop st w₀) b 0 + countTo k floats x total i b
+  pub counts : (b : ℕ) → getD (drop st w) b 0 ≡ getD (drop st w₀) b 0 + length (refsBy k floats x total (drop r (orderIn k w₀ n)) b)
 
 module _ (k : Rooms) (floats : List Float) (x : AngularIndex) (total : Float) (n : ℕ) (w₀ : List ℕ) (pre : Counting k floats x total n w₀) (st : ℕ) (hst : st ≡ startsW k) where
-  pub tallied-none : Tallied k floats x total n st w₀ w₀ 0
-  tallied-none = record { few = omega arith; long = refl; front = refl; counts = λ b. omega arith }
+  pub tallied-none : Tallied k floats x total n st w₀ w₀ n
+  tallied-none =
+      let e : drop n (orderIn k w₀ n) ≡ [] = order-end k w₀ n (pre .ready .held) (pre .ready .fit .words-fit) in
+      record { left = le-refl n; long = refl; front = refl; counts = λ b. omega (arith, ap (λ (q : List ℕ). length (refsBy k floats x total q b)) e) }
 
-  pub tallied-all : (w : List ℕ) (i : ℕ) → n ≤ i → Tallied k floats x total n st w₀ w i → Counted k floats x total n w₀ w
-  tallied-all w i h t =
-      let e : i ≡ n = omega (arith, t .few) in
+  pub tallied-all : (w : List ℕ) (r : ℕ) → r ≤ 0 → Tallied k floats x total n st w₀ w r → Counted k floats x total n w₀ w
+  tallied-all w r h t =
+      let e : r ≡ 0 = omega arith in
       record {
         front = subst (λ (q : ℕ). take q w ≡ take q w₀) hst (t .front);
-        counts = λ b. subst (λ (q : ℕ). getD (drop q w) b 0 ≡ getD (drop q w₀) b 0 + countTo k floats x total n b) hst
-            (t .counts b ∙ ap (λ (q : ℕ). getD (drop st w₀) b 0 + countTo k floats x total q b) e);
+        counts = λ b. subst (λ (q : ℕ). getD (drop q w) b 0 ≡ getD (drop q w₀) b 0 + length (refsBy k floats x total (orderIn k w₀ n) b)) hst
+            (t .counts b ∙ ap (λ (q : ℕ). getD (drop st w₀) b 0 + length (refsBy k floats x total (drop q (orderIn k w₀ n)) b)) e);
       }
 
-  module _ (w : List ℕ) (i : ℕ) (h : i < n) (t : Tallied k floats x total n st w₀ w i) (s : Spans) (hs : s ≡ spansAt k floats x total i) where
-    bits-are : (b : ℕ) → edgeBits s b ≡ edgeBits (spansAt k floats x total i) b
-    bits-are b = ap (λ (q : Spans). edgeBits q b) hs
+  module _ (w : List ℕ) (r : ℕ) (h : 0 < r) (t : Tallied k floats x total n st w₀ w r) (p : ℕ) (hp : p ≡ nearestW k) (c : ℕ) (hc : c ≡ notesW k)
+      (s : Spans) (hs : s ≡ saidBy (getD w (c + (r - 1)) 0) (spansAt k floats x total (getD w (p + (r - 1)) 0))) where
+    is-said : s ≡ spansAt k floats x total (getD w (p + (r - 1)) 0)
+    is-said = said-here k floats x total n w₀ (pre .ready .held) (pre .noted) w r h (t .left) st hst (t .front) p hp c hc s hs
 
     pub count-room : CountRoom s (midOf st (length w - st) w)
     count-room =
-        let ins : Inside (x .buckets) s = subst (Inside (x .buckets)) (sym hs) (at-inside k floats x total i (pre .some)) in
+        let ins : Inside (x .buckets) s = inside k floats x total n w₀ (pre .ready .held) (pre .ready .fit .words-fit) (pre .some) w r h (t .left) st hst (t .front) p hp s is-said in
         let d = length-drop st w in
         let f = pre .ready .fit .words-fit in
         let g = pre .starts-fit in
@@ -116,37 +130,35 @@ module _ (k : Rooms) (floats : List Float) (x : AngularIndex) (total : Float) (n
           small = λ b c.
               let q = bits-inside (x .buckets) s b ins c in
               let z : getD (drop st w₀) b 0 ≡ 0 = subst (λ (a : ℕ). getD (drop a w₀) b 0 ≡ 0) (sym hst) (pre .zero b (omega arith)) in
-              omega (arith, z, t .counts b, bits-are b, sumTo-step (λ j. edgeBits (spansAt k floats x total j) b) i n h, pre .small b);
+              let few = held-few k floats x total n w₀ (pre .ready .held) (pre .ready .fit .words-fit) (pre .some) w r h (t .left) st hst (t .front) p hp s is-said b in
+              omega (arith, z, t .counts b, few, pre .small b);
         })
 
     pub tallied-more : (v : List ℕ) → length v ≡ length (midOf st (length w - st) w) → ((b : ℕ) → getD v b 0 ≡ getD (midOf st (length w - st) w) b 0 + edgeBits s b)
-        → Tallied k floats x total n st w₀ (putMid st (length w - st) w v) (i + 1)
+        → Tallied k floats x total n st w₀ (putMid st (length w - st) w v) (r - 1)
     tallied-more v lv d =
         let fits : st ≤ length w = omega (arith, pre .ready .fit .words-fit, t .long, hst) in
+        let g = grow k floats x total n w₀ (pre .ready .held) (pre .ready .fit .words-fit) (pre .some) w r h (t .left) st hst (t .front) p hp s is-said in
         record {
-          few = omega arith;
+          left = omega (arith, t .left);
           long = same-len-mid st (length w - st) w v lv ∙ t .long;
           front = take-put st (length w - st) w v fits ∙ t .front;
-          counts = λ b.
-              ap (λ (q : List ℕ). getD q b 0) (back-rest st w v fits)
-              ∙ omega (
-                arith,
-                d b,
-                ap (λ (q : List ℕ). getD q b 0) (tail-is st w),
-                t .counts b,
-                bits-are b,
-                ap (λ (q : ℕ). countTo k floats x total q b) (add-one i),
-              );
+          counts = λ b. ap (λ (q : List ℕ). getD q b 0) (back-rest st w v fits) ∙ omega (arith, d b, ap (λ (q : List ℕ). getD q b 0) (tail-is st w), t .counts b, g b);
         }
 
--- ---- the putting in
-pub record Scattered (k : Rooms) (floats : List Float) (x : AngularIndex) (total : Float) (n st rf : ℕ) (w₀ w : List ℕ) (r : ℕ) : Type 0 where
+-- ---- the putting in: the buckets up to lo are done, and in those up to hi the edges from r on
+pub record Scattered (k : Rooms) (floats : List Float) (x : AngularIndex) (total : Float) (n st rf : ℕ) (w₀ w : List ℕ) (lo hi r : ℕ) : Type 0 where
   pub left : r ≤ n
   pub long : length w ≡ length w₀
   pub front : take st w ≡ take st w₀
-  pub starts : (b : ℕ) → getD (take rf (drop st w)) b 0 + length (refsBy k floats x total (drop r (orderIn k w₀ n)) b) ≡ getD (take rf (drop st w₀)) b 0
-  pub blocks : State (λ b. length (refsBy k floats x total (orderIn k w₀ n) b)) (refsBy k floats x total (drop r (orderIn k w₀ n))) (x .buckets)
+  pub starts : (b : ℕ) → getD (take rf (drop st w)) b 0 + length (strip (spansAt k floats x total) (orderIn k w₀ n) lo hi r b) ≡ getD (take rf (drop st w₀)) b 0
+  pub blocks : State (λ b. length (refsBy k floats x total (orderIn k w₀ n) b)) (strip (spansAt k floats x total) (orderIn k w₀ n) lo hi r) (x .buckets)
       (drop (manyBy k floats x total (orderIn k w₀ n)) (drop rf (drop st w₀))) (take rf (drop st w)) (drop rf (drop st w))
+
+-- within one strip: from words where the buckets up to lo are done, w₁, to w
+abbrev pub Stripped : Rooms → List Float → AngularIndex → Float → ℕ → ℕ → ℕ → ℕ → ℕ → List ℕ → List ℕ → ℕ → Type 0
+Stripped k floats x total n st rf lo hi w₁ w r =
+    (w₀ : List ℕ) → Putting k floats x total n w₀ → Scattered k floats x total n st rf w₀ w₁ lo lo n → Scattered k floats x total n st rf w₀ w lo hi r
 
 module _ (k : Rooms) (floats : List Float) (x : AngularIndex) (total : Float) (n : ℕ) (w₀ : List ℕ) (pre : Putting k floats x total n w₀) (st : ℕ) (hst : st ≡ startsW k) (rf : ℕ) (hrf : rf ≡ k .starts) where
   -- the starts at the beginning
@@ -162,10 +174,12 @@ module _ (k : Rooms) (floats : List Float) (x : AngularIndex) (total : Float) (n
   refs-long : (l : List ℕ) → length l ≡ length w₀ → k .refs ≤ length (drop rf (drop st l))
   refs-long l e = omega (arith, ap length (refs-are l), length-drop (refsW k) l, e, pre .ready .fit .words-fit)
 
-  pub scattered-none : Scattered k floats x total n st rf w₀ w₀ n
+  none-left : drop n (orderIn k w₀ n) ≡ []
+  none-left = order-end k w₀ n (pre .ready .held) (pre .ready .fit .words-fit)
+
+  pub scattered-none : Scattered k floats x total n st rf w₀ w₀ 0 0 n
   scattered-none =
-      let e : drop n (orderIn k w₀ n) ≡ [] = order-end k w₀ n (pre .ready .held) (pre .ready .fit .words-fit) in
-      let none : (b : ℕ) → refsBy k floats x total (drop n (orderIn k w₀ n)) b ≡ [] = λ b. ap (λ (q : List ℕ). refsBy k floats x total q b) e in
+      let none : (b : ℕ) → strip (spansAt k floats x total) (orderIn k w₀ n) 0 0 n b ≡ [] = λ b. strip-rest (spansAt k floats x total) (orderIn k w₀ n) 0 0 n b none-left (omega arith) in
       record {
         left = le-refl n;
         long = refl;
@@ -174,33 +188,82 @@ module _ (k : Rooms) (floats : List Float) (x : AngularIndex) (total : Float) (n
         blocks = state-none none start-at (omega (arith, pre .refs-fit, refs-long w₀ refl));
       }
 
-  pub scattered-all : (w : List ℕ) (r : ℕ) → r ≤ 0 → Scattered k floats x total n st rf w₀ w r → Placed k floats x total n w₀ w
-  scattered-all w r h t =
-      let e : r ≡ 0 = omega arith in
+  -- the same, of a strip that holds the same
+  scattered-as : (w : List ℕ) (lo hi r lo' hi' r' : ℕ) → r' ≤ n
+      → ((b : ℕ) → strip (spansAt k floats x total) (orderIn k w₀ n) lo' hi' r' b ≡ strip (spansAt k floats x total) (orderIn k w₀ n) lo hi r b)
+      → Scattered k floats x total n st rf w₀ w lo hi r → Scattered k floats x total n st rf w₀ w lo' hi' r'
+  scattered-as w lo hi r lo' hi' r' h e t =
+      record {
+        left = h;
+        long = t .long;
+        front = t .front;
+        starts = λ b. omega (arith, t .starts b, ap length (e b));
+        blocks = state-ext (strip (spansAt k floats x total) (orderIn k w₀ n) lo' hi' r') e (t .blocks);
+      }
+
+  -- a strip begins
+  pub scattered-open : (w : List ℕ) (lo hi : ℕ) → Scattered k floats x total n st rf w₀ w lo lo n → Scattered k floats x total n st rf w₀ w lo hi n
+  scattered-open w lo hi t = scattered-as w lo lo n lo hi n (le-refl n) (strip-same (spansAt k floats x total) (orderIn k w₀ n) lo hi n none-left) t
+
+  -- and ends
+  pub scattered-close : (w : List ℕ) (lo hi r : ℕ) → lo ≤ hi → r ≤ 0 → Scattered k floats x total n st rf w₀ w lo hi r → Scattered k floats x total n st rf w₀ w hi hi n
+  scattered-close w lo hi r h z t =
+      scattered-as w lo hi r hi hi n (le-refl n) (strip-next (spansAt k floats x total) (orderIn k w₀ n) lo hi r n h (omega arith) none-left) t
+
+  pub scattered-all : (w : List ℕ) (lo : ℕ) → x .buckets ≤ lo → Scattered k floats x total n st rf w₀ w lo lo n → Placed k floats x total n w₀ w
+  scattered-all w lo h t =
       let o = orderIn k w₀ n in
-      let all : (b : ℕ) → refsBy k floats x total (drop r o) b ≡ refsBy k floats x total o b = λ b. ap (λ (q : ℕ). refsBy k floats x total (drop q o) b) e in
+      let all : (b : ℕ) → refsBy k floats x total o b ≡ strip (spansAt k floats x total) o lo lo n b
+      = strip-all (spansAt k floats x total) o (x .buckets) (λ i. at-inside k floats x total i (pre .some)) lo n h none-left in
       record {
         front = subst (λ (q : ℕ). take q w ≡ take q w₀) hst (t .front);
         starts = λ b g.
             let a : getD (take rf (drop st w)) b 0 ≡ getD (drop st w) b 0 = getD-take rf (drop st w) b 0 (omega arith) in
             let a₀ : getD (take rf (drop st w₀)) b 0 ≡ getD (drop st w₀) b 0 = getD-take rf (drop st w₀) b 0 (omega arith) in
             subst (λ (q : ℕ). getD (drop q w) b 0 + length (refsBy k floats x total o b) ≡ getD (drop q w₀) b 0) hst (omega (arith, a, a₀, t .starts b, ap length (all b)));
-        refs = sym (refs-are w) ∙ state-full (λ b. refl) (state-ext (refsBy k floats x total o) (λ b. sym (all b)) (t .blocks))
+        refs = sym (refs-are w) ∙ state-full (λ b. refl) (state-ext (refsBy k floats x total o) all (t .blocks))
             ∙ ap (λ (q : List ℕ). joined (refsBy k floats x total o) (x .buckets) ++ q) (ap (drop (manyBy k floats x total o)) (refs-are w₀) ∙ drop-drop (manyBy k floats x total o) (refsW k) w₀);
       }
 
-  module _ (w : List ℕ) (r : ℕ) (h : 0 < r) (t : Scattered k floats x total n st rf w₀ w r) (p : ℕ) (hp : p ≡ nearestW k) (s : Spans) (hs : s ≡ spansAt k floats x total (getD w (p + (r - 1)) 0)) where
-    in-buckets : Inside (x .buckets) s
-    in-buckets = inside k floats x total n w₀ (pre .ready .held) (pre .ready .fit .words-fit) (pre .some) w r h (t .left) st hst (t .front) p hp s hs
+  -- one edge: s are its buckets, and u those of them in the strip
+  module _ (w : List ℕ) (lo hi r : ℕ) (h : 0 < r) (t : Scattered k floats x total n st rf w₀ w lo hi r) (p : ℕ) (hp : p ≡ nearestW k) (c : ℕ) (hc : c ≡ notesW k)
+      (s : Spans) (hs : s ≡ saidBy (getD w (c + (r - 1)) 0) (spansAt k floats x total (getD w (p + (r - 1)) 0))) (u : Spans) (hu : u ≡ cutBoth lo hi s) where
+    is-said' : s ≡ spansAt k floats x total (getD w (p + (r - 1)) 0)
+    is-said' = said-here k floats x total n w₀ (pre .ready .held) (pre .noted) w r h (t .left) st hst (t .front) p hp c hc s hs
 
-    will-hold : (b : ℕ) → edgeBits s b + length (refsBy k floats x total (drop r (orderIn k w₀ n)) b) ≤ length (refsBy k floats x total (orderIn k w₀ n) b)
-    will-hold = held-few k floats x total n w₀ (pre .ready .held) (pre .ready .fit .words-fit) (pre .some) w r h (t .left) st hst (t .front) p hp s hs
+    in-buckets : Inside (x .buckets) u
+    in-buckets =
+        subst (Inside (x .buckets)) (sym hu)
+        (cut-in lo hi (x .buckets) s (inside k floats x total n w₀ (pre .ready .held) (pre .ready .fit .words-fit) (pre .some) w r h (t .left) st hst (t .front) p hp s is-said'))
 
-    pub put-room : PutRoom rf s (midOf st (length w - st) w)
+    -- what the strip holds then
+    holds : (b : ℕ) → strip (spansAt k floats x total) (orderIn k w₀ n) lo hi (r - 1) b
+        ≡ consIf (covers (u .first) b) (getD w (p + (r - 1)) 0) (consIf (covers (u .second) b) (getD w (p + (r - 1)) 0) (strip (spansAt k floats x total) (orderIn k w₀ n) lo hi r b))
+    holds b =
+        subst (λ (q : Spans). strip (spansAt k floats x total) (orderIn k w₀ n) lo hi (r - 1) b
+        ≡ consIf (covers (q .first) b) (getD w (p + (r - 1)) 0) (consIf (covers (q .second) b) (getD w (p + (r - 1)) 0) (strip (spansAt k floats x total) (orderIn k w₀ n) lo hi r b))) (sym hu)
+        (strip-more (spansAt k floats x total) (orderIn k w₀ n) lo hi r s (getD w (p + (r - 1)) 0)
+        (more k floats x total n w₀ (pre .ready .held) (pre .ready .fit .words-fit) (pre .some) w r h (t .left) st hst (t .front) p hp s is-said') b)
+
+    grows : (b : ℕ) → length (strip (spansAt k floats x total) (orderIn k w₀ n) lo hi (r - 1) b) ≡ edgeBits u b + length (strip (spansAt k floats x total) (orderIn k w₀ n) lo hi r b)
+    grows b = strip-long (getD w (p + (r - 1)) 0) u b _ _ (holds b)
+
+    will-hold : (b : ℕ) → edgeBits u b + length (strip (spansAt k floats x total) (orderIn k w₀ n) lo hi r b) ≤ length (refsBy k floats x total (orderIn k w₀ n) b)
+    will-hold b = omega (arith, grows b, strip-few (spansAt k floats x total) (orderIn k w₀ n) lo hi (r - 1) b)
+
+    -- where it has none, nothing is to be put
+    pub scattered-skip : ((b : ℕ) → (covers (u .first) b ≡ false) × (covers (u .second) b ≡ false)) → Scattered k floats x total n st rf w₀ w lo hi (r - 1)
+    scattered-skip out =
+        scattered-as w lo hi r lo hi (r - 1) (omega (arith, t .left)) (λ b.
+        holds b
+        ∙ ap (λ (q : Bool). consIf q (getD w (p + (r - 1)) 0) (consIf (covers (u .second) b) (getD w (p + (r - 1)) 0) (strip (spansAt k floats x total) (orderIn k w₀ n) lo hi r b))) (out b .0)
+        ∙ ap (λ (q : Bool). consIf q (getD w (p + (r - 1)) 0) (strip (spansAt k floats x total) (orderIn k w₀ n) lo hi r b)) (out b .1)) t
+
+    pub put-room : PutRoom rf u (midOf st (length w - st) w)
     put-room =
         let i = in-buckets in
         let long : length (drop st w) ≡ length w - st = length-drop st w in
-        subst (PutRoom rf s) (sym (tail-is st w))
+        subst (PutRoom rf u) (sym (tail-is st w))
         (record {
           inside = omega (arith, long, pre .ready .fit .words-fit, t .long, hst, hrf);
           first-fits = omega (arith, i .first-in, pre .starts-fit, hrf);
@@ -208,30 +271,28 @@ module _ (k : Rooms) (floats : List Float) (x : AngularIndex) (total : Float) (n
           above = λ b.
               ⊎-elim
               (λ g. omega (arith, t .starts b, start-at b g, will-hold b))
-              (λ g. let z : edgeBits s b ≡ 0 = bits-past (x .buckets) s b i g in omega arith)
+              (λ g. let z : edgeBits u b ≡ 0 = bits-past (x .buckets) u b i g in omega arith)
               (lt-or-le b (x .buckets));
           below = λ b c.
-              let g : b < x .buckets = bits-inside (x .buckets) s b i c in
-              let m = block k floats x total n w₀ (pre .ready .held) (pre .ready .fit .words-fit) (pre .some) w r h (t .left) st hst (t .front) p hp s hs b g in
+              let g : b < x .buckets = bits-inside (x .buckets) u b i c in
+              let m = sumTo-step (λ j. length (refsBy k floats x total (orderIn k w₀ n) j)) b (x .buckets) g in
               omega (arith, t .starts b, start-at b g, m, pre .refs-fit, refs-long w (t .long));
         })
 
-    pub scattered-more : (v : List ℕ) → length v ≡ length (midOf st (length w - st) w) → PutBoth rf s (getD w (p + (r - 1)) 0) (midOf st (length w - st) w) v
-        → Scattered k floats x total n st rf w₀ (putMid st (length w - st) w v) (r - 1)
+    pub scattered-more : (v : List ℕ) → length v ≡ length (midOf st (length w - st) w) → PutBoth rf u (getD w (p + (r - 1)) 0) (midOf st (length w - st) w) v
+        → Scattered k floats x total n st rf w₀ (putMid st (length w - st) w v) lo hi (r - 1)
     scattered-more v lv put =
         let fits : st ≤ length w = omega (arith, pre .ready .fit .words-fit, t .long, hst) in
-        let d : PutBoth rf s (getD w (p + (r - 1)) 0) (drop st w) v = subst (λ (q : List ℕ). PutBoth rf s (getD w (p + (r - 1)) 0) q v) (tail-is st w) put in
+        let d : PutBoth rf u (getD w (p + (r - 1)) 0) (drop st w) v = subst (λ (q : List ℕ). PutBoth rf u (getD w (p + (r - 1)) 0) q v) (tail-is st w) put in
         let now : drop st (putMid st (length w - st) w v) ≡ v = back-rest st w v fits in
-        let g = grow k floats x total n w₀ (pre .ready .held) (pre .ready .fit .words-fit) (pre .some) w r h (t .left) st hst (t .front) p hp s hs in
         record {
           left = omega (arith, t .left);
           long = same-len-mid st (length w - st) w v lv ∙ t .long;
           front = take-put st (length w - st) w v fits ∙ t .front;
-          starts = λ b. omega (arith, ap (λ (q : List ℕ). getD (take rf q) b 0) now, d .down b, t .starts b, g b);
-          blocks = subst (λ (q : List ℕ). State (λ b. length (refsBy k floats x total (orderIn k w₀ n) b)) (refsBy k floats x total (drop (r - 1) (orderIn k w₀ n))) (x .buckets)
+          starts = λ b. omega (arith, ap (λ (q : List ℕ). getD (take rf q) b 0) now, d .down b, t .starts b, grows b);
+          blocks = subst (λ (q : List ℕ). State (λ b. length (refsBy k floats x total (orderIn k w₀ n) b)) (strip (spansAt k floats x total) (orderIn k w₀ n) lo hi (r - 1)) (x .buckets)
               (drop (manyBy k floats x total (orderIn k w₀ n)) (drop rf (drop st w₀))) (take rf q) (drop rf q)) (sym now)
-              (state-ext (refsBy k floats x total (drop (r - 1) (orderIn k w₀ n)))
-              (more k floats x total n w₀ (pre .ready .held) (pre .ready .fit .words-fit) (pre .some) w r h (t .left) st hst (t .front) p hp s hs)
-              (d .held (λ b. length (refsBy k floats x total (orderIn k w₀ n) b)) (refsBy k floats x total (drop r (orderIn k w₀ n))) (x .buckets) _ (omega (arith, pre .starts-fit, hrf)) (t .blocks)
-              (λ b c. (bits-inside (x .buckets) s b in-buckets c, omega (arith, will-hold b)))));
+              (state-ext (strip (spansAt k floats x total) (orderIn k w₀ n) lo hi (r - 1)) holds
+              (d .held (λ b. length (refsBy k floats x total (orderIn k w₀ n) b)) (strip (spansAt k floats x total) (orderIn k w₀ n) lo hi r) (x .buckets) _ (omega (arith, pre .starts-fit, hrf)) (t .blocks)
+              (λ b c. (bits-inside (x .buckets) u b in-buckets c, omega (arith, will-hold b)))));
         }

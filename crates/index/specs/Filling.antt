@@ -1,22 +1,24 @@
--- What the passes of the building ask and do: counting, over the edges as they stand, summing, and putting in, from the farthest edge to the nearest
--- (`visibility.rs`, lines 503 to 528). The starts stand from `startsW` on and the references from `refsW` on. Definitions only.
+-- What the passes of the building ask and do: noting each edge's buckets, counting, summing, and putting in, from the farthest edge to the nearest
+-- (`visibility.rs`, lines 503 to 528). The notes stand from `notesW` on, the starts from `startsW` on and the references from `refsW` on.
+-- Definitions only.
 use mathlib.Core.Path.{_≡_}
-use mathlib.Core.Bool.{false}
+use mathlib.Core.Bool.{Bool, false, cond, _&&_}
 use mathlib.Core.List.{List, [], _++_}
-use Prim.Native.Nat.{ℕ, suc, _+_, _≤_, _<_}
+use Prim.Native.Nat.{ℕ, suc, _+_, _*_, _/_, _%_, _≤_, _<_, min, max}
 use lib.ListN.{length, getD, take, drop}
-use lib.Dec.{ltb}
+use lib.Dec.{eqb, ltb, leb}
 use lib.Ieee.{Float}
 use Rattle.lists.specs.Lists.{consIf, sumTo, joined}
 use Rattle.lists.specs.Parts.{part, Only}
 use Rattle.tables.specs.Scatter.{State}
 use Rattle.room.specs.declared.Rooms.{Rooms}
-use Rattle.room.specs.Layout.{nearestW, startsW, refsW, samplesW}
+use Rattle.room.specs.Layout.{nearestW, eventsW, startsW, refsW, samplesW}
 use Rattle.room.specs.Records.{edgeAt}
 use Rattle.index.specs.declared.AngularIndex.{AngularIndex}
 use Rattle.index.specs.declared.Indexed.{Indexed}
+use Rattle.index.specs.declared.Stretch.{Stretch}
 use Rattle.index.specs.declared.Spans.{Spans}
-use Rattle.index.specs.Spans.{spansOf, spansBy, covers, edgeBits, edgeRefs}
+use Rattle.index.specs.Spans.{spansOf, spansBy, stretch, both, covers, edgeBits, edgeRefs}
 use Rattle.index.specs.Angular.{inBucket}
 use Rattle.index.specs.Stands.{refsAt, Ready}
 
@@ -37,13 +39,52 @@ refsBy k floats x total order b = inBucket (spansAt k floats x total) order b
 abbrev pub manyBy : Rooms → List Float → AngularIndex → Float → List ℕ → ℕ
 manyBy k floats x total order = sumTo (λ b. length (refsBy k floats x total order b)) (x .buckets)
 
--- how often the first n edges are in the bucket b
+-- how often the first n edges, as they stand, are in the bucket b
 abbrev pub countTo : Rooms → List Float → AngularIndex → Float → ℕ → ℕ → ℕ
 countTo k floats x total n b = sumTo (λ i. edgeBits (spansAt k floats x total i) b) n
 
 -- and how many references they have
 abbrev pub refsTo : Rooms → List Float → AngularIndex → Float → ℕ → ℕ
 refsTo k floats x total n = sumTo (λ i. edgeRefs (spansAt k floats x total i)) n
+
+-- ---- an edge's buckets, noted
+-- where the notes stand: behind the order of nearness, in the scratch of its sort
+abbrev pub notesW : Rooms → ℕ
+notesW k = nearestW k + k .edges
+
+-- the buckets that the note p says: from its first to its last
+abbrev pub saidOf : ℕ → Spans
+saidOf p = both (stretch (p / 65536) (p % 65536 + 1)) (stretch 0 0)
+
+-- and those of an edge that has the buckets s: 65,535 says nothing
+abbrev pub saidBy : ℕ → Spans → Spans
+saidBy p s = cond (eqb p 65535) s (saidOf p)
+
+-- the edge of the note p may have a bucket from lo up to hi
+abbrev pub meetsOf : ℕ → ℕ → ℕ → Bool
+meetsOf p lo hi = ltb p (65536 * hi) && leb lo (p % 65536)
+
+-- each of the first n of the order of nearness has its note
+abbrev pub Noted : Rooms → List Float → AngularIndex → Float → ℕ → List ℕ → Type 0
+Noted k floats x total n words = (r : ℕ) → r < n
+    → saidBy (getD words (notesW k + r) 0) (spansAt k floats x total (getD words (nearestW k + r) 0)) ≡ spansAt k floats x total (getD words (nearestW k + r) 0)
+
+-- the noting: a bucket's number fits half a word
+pub record Notable (k : Rooms) (floats : List Float) (x : AngularIndex) (n : ℕ) (words : List ℕ) : Type 0 where
+  pub ready : Ready k floats words n
+  pub some : 0 < x .buckets
+  pub few : x .buckets ≤ 65536
+
+pub record Notes (k : Rooms) (floats : List Float) (x : AngularIndex) (total : Float) (n : ℕ) (words words' : List ℕ) : Type 0 where
+  pub only : Only (notesW k) (eventsW k) words words'
+  pub noted : Noted k floats x total n words'
+
+-- the part of a stretch from lo up to hi, and of both stretches of an edge
+abbrev pub cutOf : ℕ → ℕ → Stretch → Stretch
+cutOf lo hi s = stretch (max lo (s .from)) (min (s .to) hi)
+
+abbrev pub cutBoth : ℕ → ℕ → Spans → Spans
+cutBoth lo hi s = both (cutOf lo hi (s .first)) (cutOf lo hi (s .second))
 
 -- ---- one edge
 -- its buckets lie in the starts, and no count passes a `u32`
@@ -73,30 +114,34 @@ pub record Counting (k : Rooms) (floats : List Float) (x : AngularIndex) (total 
   pub ready : Ready k floats words n
   pub some : 0 < x .buckets
   pub starts-fit : x .buckets < k .starts
-  pub small : (b : ℕ) → countTo k floats x total n b ≤ 4294967295
+  pub noted : Noted k floats x total n words
+  pub small : (b : ℕ) → length (refsBy k floats x total (orderIn k words n) b) ≤ 4294967295
   pub zero : (b : ℕ) → b ≤ x .buckets → getD (drop (startsW k) words) b 0 ≡ 0
 
 pub record Counted (k : Rooms) (floats : List Float) (x : AngularIndex) (total : Float) (n : ℕ) (words words' : List ℕ) : Type 0 where
   pub front : take (startsW k) words' ≡ take (startsW k) words
-  pub counts : (b : ℕ) → getD (drop (startsW k) words') b 0 ≡ getD (drop (startsW k) words) b 0 + countTo k floats x total n b
+  pub counts : (b : ℕ) → getD (drop (startsW k) words') b 0 ≡ getD (drop (startsW k) words) b 0 + length (refsBy k floats x total (orderIn k words n) b)
 
 -- the ends of the blocks: the counts summed up
 pub record Endable (k : Rooms) (floats : List Float) (x : AngularIndex) (total : Float) (n : ℕ) (words : List ℕ) : Type 0 where
   pub ready : Ready k floats words n
   pub some : 0 < x .buckets
   pub starts-fit : x .buckets < k .starts
-  pub small : refsTo k floats x total n ≤ 4294967295
+  pub noted : Noted k floats x total n words
+  pub small : manyBy k floats x total (orderIn k words n) ≤ 4294967295
 
 pub record Ended (k : Rooms) (floats : List Float) (x : AngularIndex) (total : Float) (n : ℕ) (words : List ℕ) (refs : ℕ) (words' : List ℕ) : Type 0 where
   pub only : Only (startsW k) (refsW k) words words'
-  pub ends : (b : ℕ) → b ≤ x .buckets → getD (drop (startsW k) words') b 0 ≡ sumTo (countTo k floats x total n) (suc b)
-  pub refs-are : refs ≡ refsTo k floats x total n
+  pub ends : (b : ℕ) → b ≤ x .buckets → getD (drop (startsW k) words') b 0 ≡ sumTo (λ j. length (refsBy k floats x total (orderIn k words n) j)) (suc b)
+  pub refs-are : refs ≡ manyBy k floats x total (orderIn k words n)
 
 -- the putting in: the starts are at the blocks' ends. What the references were does not matter
 pub record Putting (k : Rooms) (floats : List Float) (x : AngularIndex) (total : Float) (n : ℕ) (words : List ℕ) : Type 0 where
   pub ready : Ready k floats words n
   pub some : 0 < x .buckets
+  pub few : x .buckets ≤ 65536
   pub starts-fit : x .buckets < k .starts
+  pub noted : Noted k floats x total n words
   pub refs-fit : manyBy k floats x total (orderIn k words n) ≤ k .refs
   pub ends : (b : ℕ) → b < x .buckets → getD (drop (startsW k) words) b 0 ≡ sumTo (λ j. length (refsBy k floats x total (orderIn k words n) j)) (suc b)
 
@@ -106,19 +151,22 @@ pub record Placed (k : Rooms) (floats : List Float) (x : AngularIndex) (total : 
   pub refs : drop (refsW k) words' ≡ joined (refsBy k floats x total (orderIn k words n)) (x .buckets) ++ drop (refsW k + manyBy k floats x total (orderIn k words n)) words
 
 -- ---- the starts and the references
--- by the order each bucket has as many as by the edges as they stand
 pub record Fillable (k : Rooms) (floats : List Float) (x : AngularIndex) (total : Float) (n : ℕ) (words : List ℕ) : Type 0 where
-  pub endable : Endable k floats x total n words
-  pub alike : (b : ℕ) → length (refsBy k floats x total (orderIn k words n) b) ≡ countTo k floats x total n b
+  pub notable : Notable k floats x n words
+  pub starts-fit : x .buckets < k .starts
+  pub small : manyBy k floats x total (orderIn k words n) ≤ 4294967295
 
 -- they stand in the room
 pub record Held (k : Rooms) (floats : List Float) (x : AngularIndex) (total : Float) (n : ℕ) (words words' : List ℕ) : Type 0 where
   pub starts : (b : ℕ) → b ≤ x .buckets → getD words' (startsW k + b) 0 ≤ k .refs
   pub blocks : (b : ℕ) → b < x .buckets → refsAt k words' b ≡ refsBy k floats x total (orderIn k words n) b
 
+-- the notes are written first
 pub record Filled (k : Rooms) (floats : List Float) (x : AngularIndex) (total : Float) (n : ℕ) (words : List ℕ) (r : Indexed) (words' : List ℕ) : Type 0 where
   pub index : r .index ≡ x
-  pub refs : r .refs ≡ refsTo k floats x total n
+  pub refs : r .refs ≡ manyBy k floats x total (orderIn k words n)
   pub over : r .over ≡ ltb (k .refs) (r .refs)
-  pub only : Only (startsW k) (samplesW k) words words'
+  pub between : List ℕ
+  pub noted : Only (notesW k) (eventsW k) words between
+  pub only : Only (startsW k) (samplesW k) between words'
   pub stands : r .over ≡ false → Held k floats x total n words words'

@@ -20,12 +20,18 @@ ghost use Rattle.room.specs.Records.{edgeAt};
 ghost use Rattle.index.specs.Spans.{bucketsFor, headOf, bucketOf, clipOf, spansBy, widthOf, covers, edgeBits};
 ghost use Rattle.index.specs.Casting.{betterOf, turnedOf, noneYet, walkOf, castWithin, castOf};
 ghost use Rattle.index.specs.Stands.{indexIn, Ready, Builds};
-ghost use Rattle.index.specs.Filling.{spansAt, refsTo, CountRoom, Counting, Counted, Endable, Ended, PutRoom, PutBoth, Putting, Placed, Fillable, Filled};
+ghost use Rattle.index.specs.Filling.{spansAt, refsTo, notesW, saidOf, saidBy, meetsOf, cutOf, cutBoth, Notable, Notes, CountRoom, Counting, Counted, Endable, Ended, PutRoom, PutBoth, Putting, Placed, Fillable, Filled};
 
 const TAU: f64 = 6.283185307179586;
 
 // Pad so rays exactly at an endpoint still see the edge.
 const PAD: f64 = 1e-9;
+
+// How many buckets are filled at a time.
+const STRIP: usize = 512;
+
+// The note that says nothing. Every strip of buckets meets it.
+const UNSAID: u32 = 65535;
 
 // The head of an index. Its lists stand in the work room.
 pub struct AngularIndex {
@@ -325,6 +331,70 @@ fn count_refs(k: Rooms, x: AngularIndex, total: f64, floats: &[f64], n: usize) -
     refs
 }
 
+// ---- an edge's buckets, noted
+
+// One stretch that has a bucket, in one word: its first bucket and its last. All others are not said.
+fn note(s: Spans) -> u32
+    requires { ⌜ s .first .to ≤ 65536 ⌝ }
+    ensures { λ r. ⌜ saidBy r s ≡ s ⌝ }
+{
+    let from = s.first.from;
+    let to = s.first.to;
+    if s.second.from == 0 {
+        if s.second.to == 0 {
+            if from < to {
+                return (65536 * from + (to - 1)) as u32;
+            }
+        }
+    }
+    UNSAID
+}
+
+// The buckets that the note p says.
+fn said(p: u32) -> Spans
+    ensures { λ r. ⌜ r ≡ saidOf p ⌝ }
+{
+    Spans {
+        first: Stretch {
+            from: wide(p / 65536),
+            to: wide(p % 65536) + 1,
+        },
+        second: Stretch { from: 0, to: 0 },
+    }
+}
+
+// May the edge of the note p have a bucket from lo up to hi? One that is not said may.
+fn meets(p: u32, lo: usize, hi: usize) -> bool
+    requires { ⌜ hi ≤ 131072 ⌝ }
+    ensures { λ r. ⌜ r ≡ meetsOf p lo hi ⌝ }
+{
+    (wide(p) < 65536 * hi) & (lo <= wide(p % 65536))
+}
+
+// Where the notes stand: behind the order of nearness, in the scratch of its sort.
+fn notes_w(k: Rooms) -> usize
+    ensures { λ r. ⌜ r ≡ notesW k ⌝ }
+{
+    room::nearest_w(k) + wide(k.edges)
+}
+
+// Notes the buckets of each edge, in order of nearness.
+fn note_all(k: Rooms, x: AngularIndex, total: f64, floats: &[f64], n: usize, words: &mut [u32])
+    requires { ⌜ Notable k (now floats) x n (now words) ⌝ }
+    ensures { λ _. ⌜ Notes k (now (floats .entry)) x total n (now (words .entry)) (now (words .exit)) ⌝ }
+{
+    let order = room::nearest_w(k);
+    let notes = notes_w(k);
+    let mut r: usize = 0;
+    while r < n {
+        let i = words[order + r];
+        words[notes + r] = note(edge_spans(k, x, total, floats, i));
+        r += 1;
+    }
+}
+
+// ---- counting
+
 // One more at each bucket of a stretch.
 fn count_stretch(starts: &mut [u32], s: Stretch)
     requires { ⌜ (s .to ≤ length (now starts)) × ((b : ℕ) → covers s b ≡ true → getD (now starts) b 0 < 4294967295) ⌝ }
@@ -344,17 +414,25 @@ fn count_edge(starts: &mut [u32], s: Spans)
     count_stretch(starts, s.first);
 }
 
-// Counts, at each bucket, the edges that cover it. They are taken as they stand, since a count does not go by the order.
+// Counts, at each bucket, the edges that cover it.
 fn count_all(k: Rooms, x: AngularIndex, total: f64, floats: &[f64], n: usize, words: &mut [u32])
     requires { ⌜ Counting k (now floats) x total n (now words) ⌝ }
     ensures { λ _. ⌜ Counted k (now (floats .entry)) x total n (now (words .entry)) (now (words .exit)) ⌝ }
 {
+    let order = room::nearest_w(k);
+    let notes = notes_w(k);
     let starts = room::starts_w(k);
-    let mut i: usize = 0;
-    while i < n {
-        let s = edge_spans(k, x, total, floats, i as u32);
+    let mut r = n;
+    while 0 < r {
+        let i = words[order + (r - 1)];
+        let p = words[notes + (r - 1)];
+        let s = if p == UNSAID {
+            edge_spans(k, x, total, floats, i)
+        } else {
+            said(p)
+        };
         count_edge(&mut words[starts..], s);
-        i += 1;
+        r -= 1;
     }
 }
 
@@ -405,20 +483,54 @@ fn put_edge(w: &mut [u32], refs: usize, s: Spans, id: u32)
     put_stretch(w, refs, s.first, id);
 }
 
-// Puts every edge into the blocks of its buckets, from the farthest to the nearest, so that the nearest is first in each block.
+// The part of a stretch from lo up to hi.
+fn cut(s: Stretch, lo: usize, hi: usize) -> Stretch
+    ensures { λ r. ⌜ r ≡ cutOf lo hi s ⌝ }
+{
+    let from = if s.from < lo { lo } else { s.from };
+    let to = lists::least(s.to, hi);
+    Stretch { from, to }
+}
+
+// The same of both stretches.
+fn cut_both(s: Spans, lo: usize, hi: usize) -> Spans
+    ensures { λ r. ⌜ r ≡ cutBoth lo hi s ⌝ }
+{
+    Spans {
+        first: cut(s.first, lo, hi),
+        second: cut(s.second, lo, hi),
+    }
+}
+
+// Puts every edge into the blocks of its buckets, from the farthest to the nearest, so that the nearest is first in each block. So many buckets are
+// filled at a time that the places written to stay in the nearest cache: a view of a large site has a million references, all over 4 MB.
 fn put_all(k: Rooms, x: AngularIndex, total: f64, floats: &[f64], n: usize, words: &mut [u32])
     requires { ⌜ Putting k (now floats) x total n (now words) ⌝ }
     ensures { λ _. ⌜ Placed k (now (floats .entry)) x total n (now (words .entry)) (now (words .exit)) ⌝ }
 {
     let order = room::nearest_w(k);
+    let notes = notes_w(k);
     let starts = room::starts_w(k);
     let refs = wide(k.starts);
-    let mut r = n;
-    while 0 < r {
-        let i = words[order + (r - 1)];
-        let s = edge_spans(k, x, total, floats, i);
-        put_edge(&mut words[starts..], refs, s, i);
-        r -= 1;
+    let count = wide(x.buckets);
+    let mut lo: usize = 0;
+    while lo < count {
+        let hi = lo + STRIP;
+        let mut r = n;
+        while 0 < r {
+            let p = words[notes + (r - 1)];
+            if meets(p, lo, hi) {
+                let i = words[order + (r - 1)];
+                let s = if p == UNSAID {
+                    edge_spans(k, x, total, floats, i)
+                } else {
+                    said(p)
+                };
+                put_edge(&mut words[starts..], refs, cut_both(s, lo, hi), i);
+            }
+            r -= 1;
+        }
+        lo = hi;
     }
 }
 
@@ -434,6 +546,7 @@ fn fill(
     requires { ⌜ Fillable k (now floats) x total n (now words) ⌝ }
     ensures { λ r. ⌜ Filled k (now (floats .entry)) x total n (now (words .entry)) r (now (words .exit)) ⌝ }
 {
+    note_all(k, x, total, floats, n, &mut *words);
     let refs = block_ends(k, x, total, floats, n, &mut *words);
     if wide(k.refs) < refs {
         return Indexed {
