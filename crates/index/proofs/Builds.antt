@@ -33,7 +33,7 @@ use Rattle.index.specs.declared.Spans.{Spans}
 use Rattle.index.specs.Spans.{bucketsFor, headOf, spansOf, covers, edgeBits}
 use Rattle.index.specs.Angular.{inBucket, nearer, nearestFirst, Index, bucketEdges, indexOf, refsOf}
 use Rattle.index.specs.Stands.{refsAt, indexIn, Within, Ready, overOf, Builds}
-use Rattle.index.specs.Filling.{spansAt, orderIn, refsBy, manyBy, countTo, refsTo, notesW, Fillable, Held, Filled}
+use Rattle.index.specs.Filling.{spansAt, orderIn, refsBy, manyBy, countTo, refsTo, Fillable, Held, Filled}
 use Rattle.index.proofs.Buckets.{at-inside, many-refs, refs-few, length-bucket, map-bucket}
 
 -- what all of a list have, those of a bucket have

@@ -3,18 +3,18 @@ use mathlib.Core.Path.{_≡_, refl, sym, ap, _∙_, subst}
 use mathlib.Core.Logic.{⊎-elim, inl}
 use mathlib.Core.Bool.{Bool, true, false, true≢false}
 use mathlib.Core.List.{List, _++_}
-use Prim.Native.Nat.{ℕ, suc, _+_, _-_, _≤_, _<_}
+use Prim.Native.Nat.{ℕ, suc, _+_, _-_, _%_, _≤_, _<_}
 use native.Mathlib.Nat.{le-refl}
 use native.Mathlib.Omega.{arith}
-use lib.ListN.{length, getD, take, drop, replicate, length-drop}
-use lib.Seq.{drop-drop, drop-at, getD-drop, ext-getD}
+use lib.ListN.{length, getD, take, drop, replicate}
+use lib.Seq.{drop-drop, drop-at, getD-drop}
 use lib.Ieee.{Float}
 use borrow.Rule.Slice.PartMut.{midOf, putMid, mid-len, same-len-mid}
 use borrow.Author.Tests.{lt-ltb, le-ltb}
 use Rattle.lists.specs.Lists.{sumTo, joined}
 use Rattle.lists.specs.Parts.{part, Only}
 use Rattle.lists.proofs.Cases.{lt-or-le}
-use Rattle.lists.proofs.Sums.{sumTo-ext, sumTo-step, sumTo-mono}
+use Rattle.lists.proofs.Sums.{sumTo-ext, sumTo-step, sumTo-mono, sumTo-zero}
 use Rattle.lists.proofs.Joined.{length-joined, joined-part}
 use Rattle.lists.proofs.Zeros.{getD-zeros}
 use Rattle.lists.proofs.Parts.{front-getD, front-part, getD-part, part-drop}
@@ -24,13 +24,8 @@ use Rattle.room.specs.Layout.{nearestW, startsW, refsW, samplesW}
 use Rattle.index.specs.declared.AngularIndex.{AngularIndex}
 use Rattle.index.specs.declared.Indexed.{Indexed}
 use Rattle.index.specs.Stands.{Ready}
-use Rattle.index.specs.Filling.{spansAt, orderIn, refsBy, manyBy, notesW, saidBy, Noted, Notes, Counting, Counted, Endable, Ended, Putting, Placed, Fillable, Filled}
+use Rattle.index.specs.Filling.{spansAt, orderIn, refsBy, manyBy, notesW, saidBy, Noted, Notes, tallyOf, Counting, Counted, Endable, Ended, Putting, Placed, Fillable, Filled}
 use Rattle.index.proofs.Buckets.{at-inside, none-past}
-
--- lists that agree from m on
-rest-same : (m : ℕ) (l l' : List ℕ) → length l ≡ length l' → ((i : ℕ) → m ≤ i → getD l i 0 ≡ getD l' i 0) → drop m l ≡ drop m l'
-rest-same m l l' e h =
-    ext-getD 0 (drop m l) (drop m l') (length-drop m l ∙ ap (λ (q : ℕ). q - m) e ∙ sym (length-drop m l')) (λ i g. getD-drop m l i 0 ∙ h (m + i) (omega arith) ∙ sym (getD-drop m l' i 0))
 
 -- a part that was lent and came back as zeros
 zeroed : (a e : ℕ) (l v : List ℕ) → a ≤ e → e ≤ length l → v ≡ replicate (length (midOf a (e - a) l)) 0 → length v ≡ length (midOf a (e - a) l) → (j : ℕ) → a + j < e → getD (putMid a (e - a) l v) (a + j) 0 ≡ 0
@@ -95,52 +90,55 @@ module _ (k : Rooms) (floats : List Float) (x : AngularIndex) (total : Float) (n
         some = pre .some;
         starts-fit = pre .starts-fit;
         noted = noted-kept k floats x total n w₀ w₁ (pre .ready .held) (cl .only .front) (pre .noted);
-        small = λ b.
-            ⊎-elim
-            (λ g. omega (arith, sumTo-step many b (x .buckets) g, order₁ b, pre .small))
-            (λ g. omega (arith, many-past b g, order₁ b))
-            (lt-or-le b (x .buckets));
-        zero = cl .zero-starts;
       }
+
+      -- no bucket has more than all together
+      many-few : (b : ℕ) → many b ≤ 4294967295
+      many-few b =
+          ⊎-elim
+          (λ g. omega (arith, sumTo-step many b (x .buckets) g, pre .small))
+          (λ g. omega (arith, many-past b g))
+          (lt-or-le b (x .buckets))
+
+      -- the marks come to nothing before
+      none-yet : (b : ℕ) → b ≤ x .buckets → tallyOf (drop (startsW k) w₁) b ≡ 0
+      none-yet b g =
+          ap (λ (q : ℕ). q % 4294967296) (sumTo-ext (λ j. getD (drop (startsW k) w₁) j 0) (λ _. 0) (suc b) (λ j l. cl .zero-starts j (omega arith)) ∙ sumTo-zero (suc b))
 
       module _ (w₂ : List ℕ) (l₂ : length w₂ ≡ length w₁) (cs : Counted k floats x total n w₁ w₂) where
         long₂ : length w₂ ≡ length w₀
         long₂ = l₂ ∙ cl .only .long
 
         only₂ : Only (startsW k) (refsW k) w₀ w₂
-        only₂ = only-trans (cl .only) (record {
-          long = l₂;
-          front = cs .front;
-          rest = rest-same (refsW k) w₂ w₁ l₂ (λ i g.
-              let e : startsW k + (i - startsW k) ≡ i = omega arith in
-              let at₂ = ap (λ (q : ℕ). getD w₂ q 0) (sym e) ∙ sym (getD-drop (startsW k) w₂ (i - startsW k) 0) in
-              let at₁ = ap (λ (q : ℕ). getD w₁ q 0) (sym e) ∙ sym (getD-drop (startsW k) w₁ (i - startsW k) 0) in
-              omega (arith, at₂, at₁, cs .counts (i - startsW k), order₁ (i - startsW k), many-past (i - startsW k) (omega (arith, pre .starts-fit))));
-        })
+        only₂ = only-trans (cl .only) (cs .only)
 
         -- what is to be summed up
-        lent-at : (j : ℕ) → j ≤ x .buckets → getD (midOf st (se - st) w₂) j 0 ≡ many j
-        lent-at j g =
-            getD-part st se w₂ j 0 (omega (arith, hst, hse)) ∙ ap (λ (q : ℕ). getD w₂ (q + j) 0) hst ∙ sym (getD-drop (startsW k) w₂ j 0)
-            ∙ omega (arith, cs .counts j, order₁ j, cl .zero-starts j g)
+        lent-at : (j : ℕ) → j ≤ x .buckets → getD (midOf st (se - st) w₂) j 0 ≡ getD (drop (startsW k) w₂) j 0
+        lent-at j g = getD-part st se w₂ j 0 (omega (arith, hst, hse)) ∙ ap (λ (q : ℕ). getD w₂ (q + j) 0) hst ∙ sym (getD-drop (startsW k) w₂ j 0)
 
-        sum-to : (b : ℕ) → b ≤ x .buckets → sumTo (λ j. getD (midOf st (se - st) w₂) j 0) (suc b) ≡ sumTo many (suc b)
-        sum-to b g = sumTo-ext (λ j. getD (midOf st (se - st) w₂) j 0) many (suc b) (λ j l. lent-at j (omega arith))
+        tally-at : (b : ℕ) → b ≤ x .buckets → tallyOf (midOf st (se - st) w₂) b ≡ many b
+        tally-at b g =
+            ap (λ (q : ℕ). q % 4294967296)
+            (sumTo-ext (λ j. getD (midOf st (se - st) w₂) j 0) (λ j. getD (drop (startsW k) w₂) j 0) (suc b) (λ j l. lent-at j (omega arith)))
+            ∙ cs .tallies b ∙ omega (arith, none-yet b g, order₁ b, many-few b)
+
+        sum-to : (b : ℕ) → b ≤ x .buckets → sumTo (tallyOf (midOf st (se - st) w₂)) (suc b) ≡ sumTo many (suc b)
+        sum-to b g = sumTo-ext (tallyOf (midOf st (se - st) w₂)) many (suc b) (λ j l. tally-at j (omega arith))
 
         -- the last sum is that of all
         sum-last : sumTo many (suc (x .buckets)) ≡ manyBy k floats x total (orderIn k w₀ n)
         sum-last = omega (arith, many-past (x .buckets) (omega arith))
 
-        pub sum-room : (count : ℕ) → count ≡ x .buckets → (count < length (midOf st (se - st) w₂)) × (sumTo (λ j. getD (midOf st (se - st) w₂) j 0) (suc count) ≤ 4294967295)
+        pub sum-room : (count : ℕ) → count ≡ x .buckets → (count < length (midOf st (se - st) w₂)) × (sumTo (tallyOf (midOf st (se - st) w₂)) (suc count) ≤ 4294967295)
         sum-room count e =
-            let top : sumTo (λ j. getD (midOf st (se - st) w₂) j 0) (suc count) ≡ sumTo many (suc (x .buckets))
-            = ap (λ (q : ℕ). sumTo (λ j. getD (midOf st (se - st) w₂) j 0) (suc q)) e ∙ sum-to (x .buckets) (omega arith) in (
+            let top : sumTo (tallyOf (midOf st (se - st) w₂)) (suc count) ≡ sumTo many (suc (x .buckets))
+            = ap (λ (q : ℕ). sumTo (tallyOf (midOf st (se - st) w₂)) (suc q)) e ∙ sum-to (x .buckets) (omega arith) in (
               omega (arith, mid-len st se w₂ (se-fits w₂ long₂), hst, hse),
               omega (arith, top, sum-last, pre .small),
             )
 
         -- ---- summed up
-        module _ (count : ℕ) (hc : count ≡ x .buckets) (v : List ℕ) (lv : length v ≡ length (midOf st (se - st) w₂)) (low : (b : ℕ) → b ≤ count → getD v b 0 ≡ sumTo (λ j. getD (midOf st (se - st) w₂) j 0) (suc b)) where
+        module _ (count : ℕ) (hc : count ≡ x .buckets) (v : List ℕ) (lv : length v ≡ length (midOf st (se - st) w₂)) (low : (b : ℕ) → b ≤ count → getD v b 0 ≡ sumTo (tallyOf (midOf st (se - st) w₂)) (suc b)) where
           summed-at : (b : ℕ) → b ≤ x .buckets → getD (putMid st (se - st) w₂ v) (st + b) 0 ≡ sumTo many (suc b)
           summed-at b g =
               let m = mid-len st se w₂ (se-fits w₂ long₂) in

@@ -3,6 +3,7 @@ pub mod Ways
 pub mod Walking
 pub mod Buckets
 pub mod Notes
+pub mod Marks
 pub mod Casts
 pub mod Puts
 pub mod Strips

@@ -5,7 +5,7 @@ use mathlib.Core.Bool.{true, false, true≢false}
 use mathlib.Core.List.{List}
 use Prim.Native.Nat.{ℕ, _+_, _-_, _*_, _/_, _%_, _≤_, _<_, min, max}
 use native.Mathlib.Omega.{arith}
-use lib.ListN.{length, getD, set, length-set}
+use lib.ListN.{getD, set}
 use lib.Dec.{eqb}
 use lib.Seq.{getD-set-same, getD-set-other}
 use lib.Ieee.{Float}

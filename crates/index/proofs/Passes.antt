@@ -3,7 +3,7 @@ use mathlib.Core.Path.{_≡_, refl, sym, ap, _∙_, subst}
 use mathlib.Core.Logic.{⊎-elim}
 use mathlib.Core.Bool.{Bool, false}
 use mathlib.Core.List.{List, [], _∷_, _++_}
-use Prim.Native.Nat.{ℕ, suc, _+_, _-_, _≤_, _<_}
+use Prim.Native.Nat.{ℕ, suc, _+_, _-_, _%_, _≤_, _<_, max}
 use native.Mathlib.Nat.{le-refl}
 use native.Mathlib.Omega.{arith}
 use lib.ListN.{length, getD, take, drop, length-drop, drop-of-length-le}
@@ -13,6 +13,7 @@ use borrow.Rule.Slice.PartMut.{midOf, putMid, mid-len, same-len-mid, take-put}
 use Rattle.lists.specs.Lists.{consIf, sumTo, joined}
 use Rattle.lists.proofs.Cases.{lt-or-le}
 use Rattle.lists.proofs.Sums.{sumTo-step}
+use Rattle.lists.proofs.Only.{only-wider}
 use Rattle.lists.proofs.Parts.{part-rest, back-rest, front-getD, getD-part}
 use Rattle.tables.specs.Scatter.{State}
 use Rattle.tables.proofs.Puts.{state-ext, state-none, state-full}
@@ -21,8 +22,8 @@ use Rattle.room.specs.Layout.{nearestW, startsW, refsW, wordsFor}
 use Rattle.index.specs.declared.AngularIndex.{AngularIndex}
 use Rattle.index.specs.declared.Spans.{Spans}
 use Rattle.index.specs.Spans.{covers, edgeBits}
-use Rattle.index.specs.Filling.{spansAt, orderIn, refsBy, manyBy, notesW, saidBy, Noted, cutBoth, CountRoom, Counting, Counted, PutRoom, PutBoth, Putting, Placed}
-use Rattle.index.proofs.Buckets.{Inside, at-inside, bits-past, bits-inside, length-more, rest-few, drop-down}
+use Rattle.index.specs.Filling.{spansAt, orderIn, refsBy, manyBy, notesW, saidBy, Noted, cutBoth, tallyOf, Marked, Counting, Counted, PutRoom, PutBoth, Putting, Placed}
+use Rattle.index.proofs.Buckets.{Inside, at-inside, bits-past, bits-inside, length-more, drop-down}
 use Rattle.index.proofs.Strips.{strip, strip-rest, strip-same, strip-next, strip-all, strip-more, strip-long, strip-few, cut-in}
 
 -- ---- the order of nearness
@@ -80,34 +81,42 @@ module _ (k : Rooms) (floats : List Float) (x : AngularIndex) (total : Float) (n
       ∙ ap (λ (q : Spans). consIf (covers (q .first) b) (getD (orderIn k w₀ n) (r - 1) 0) (consIf (covers (q .second) b) (getD (orderIn k w₀ n) (r - 1) 0) (refsBy k floats x total (drop r (orderIn k w₀ n)) b))) (sym same)
       ∙ ap (λ (q : ℕ). consIf (covers (s .first) b) q (consIf (covers (s .second) b) q (refsBy k floats x total (drop r (orderIn k w₀ n)) b))) (sym read)
 
-  -- no bucket holds more than it will
-  pub held-few : (b : ℕ) → edgeBits s b + length (refsBy k floats x total (drop r (orderIn k w₀ n)) b) ≤ length (refsBy k floats x total (orderIn k w₀ n) b)
-  held-few b = omega (arith, grow b, rest-few (spansAt k floats x total) (orderIn k w₀ n) (r - 1) b)
-
 -- ---- a rest that was lent from st on
 tail-is : (st : ℕ) (w : List ℕ) → midOf st (length w - st) w ≡ drop st w
 tail-is st w = part-rest st w
 
--- ---- the counting: the edges from r on are counted
+-- ---- the counting: the edges from r on are marked
 pub record Tallied (k : Rooms) (floats : List Float) (x : AngularIndex) (total : Float) (n st : ℕ) (w₀ w : List ℕ) (r : ℕ) : Type 0 where
   pub left : r ≤ n
   pub long : length w ≡ length w₀
   pub front : take st w ≡ take st w₀
-  pub counts : (b : ℕ) → getD (drop st w) b 0 ≡ getD (drop st w₀) b 0 + length (refsBy k floats x total (drop r (orderIn k w₀ n)) b)
+  pub tallies : (b : ℕ) → tallyOf (drop st w) b ≡ (tallyOf (drop st w₀) b + length (refsBy k floats x total (drop r (orderIn k w₀ n)) b)) % 4294967296
+  pub rest : drop (suc (x .buckets)) (drop st w) ≡ drop (suc (x .buckets)) (drop st w₀)
 
 module _ (k : Rooms) (floats : List Float) (x : AngularIndex) (total : Float) (n : ℕ) (w₀ : List ℕ) (pre : Counting k floats x total n w₀) (st : ℕ) (hst : st ≡ startsW k) where
   pub tallied-none : Tallied k floats x total n st w₀ w₀ n
   tallied-none =
       let e : drop n (orderIn k w₀ n) ≡ [] = order-end k w₀ n (pre .ready .held) (pre .ready .fit .words-fit) in
-      record { left = le-refl n; long = refl; front = refl; counts = λ b. omega (arith, ap (λ (q : List ℕ). length (refsBy k floats x total q b)) e) }
+      record {
+        left = le-refl n;
+        long = refl;
+        front = refl;
+        tallies = λ b. omega (arith, ap (λ (q : List ℕ). length (refsBy k floats x total q b)) e);
+        rest = refl;
+      }
 
   pub tallied-all : (w : List ℕ) (r : ℕ) → r ≤ 0 → Tallied k floats x total n st w₀ w r → Counted k floats x total n w₀ w
   tallied-all w r h t =
       let e : r ≡ 0 = omega arith in
+      let f : st + suc (x .buckets) ≡ startsW k + suc (x .buckets) = omega arith in
       record {
-        front = subst (λ (q : ℕ). take q w ≡ take q w₀) hst (t .front);
-        counts = λ b. subst (λ (q : ℕ). getD (drop q w) b 0 ≡ getD (drop q w₀) b 0 + length (refsBy k floats x total (orderIn k w₀ n) b)) hst
-            (t .counts b ∙ ap (λ (q : ℕ). getD (drop st w₀) b 0 + length (refsBy k floats x total (drop q (orderIn k w₀ n)) b)) e);
+        only = only-wider {b = startsW k + suc (x .buckets)} (startsW k) (refsW k) (le-refl _) (omega (arith, pre .starts-fit)) (record {
+          long = t .long;
+          front = subst (λ (q : ℕ). take q w ≡ take q w₀) hst (t .front);
+          rest = subst (λ (q : ℕ). drop q w ≡ drop q w₀) f (sym (drop-drop (suc (x .buckets)) st w) ∙ t .rest ∙ drop-drop (suc (x .buckets)) st w₀);
+        });
+        tallies = λ b. subst (λ (q : ℕ). tallyOf (drop q w) b ≡ (tallyOf (drop q w₀) b + length (refsBy k floats x total (orderIn k w₀ n) b)) % 4294967296) hst
+            (t .tallies b ∙ ap (λ (q : ℕ). (tallyOf (drop st w₀) b + length (refsBy k floats x total (drop q (orderIn k w₀ n)) b)) % 4294967296) e);
       }
 
   module _ (w : List ℕ) (r : ℕ) (h : 0 < r) (t : Tallied k floats x total n st w₀ w r) (p : ℕ) (hp : p ≡ nearestW k) (c : ℕ) (hc : c ≡ notesW k)
@@ -115,35 +124,29 @@ module _ (k : Rooms) (floats : List Float) (x : AngularIndex) (total : Float) (n
     is-said : s ≡ spansAt k floats x total (getD w (p + (r - 1)) 0)
     is-said = said-here k floats x total n w₀ (pre .ready .held) (pre .noted) w r h (t .left) st hst (t .front) p hp c hc s hs
 
-    pub count-room : CountRoom s (midOf st (length w - st) w)
-    count-room =
-        let ins : Inside (x .buckets) s = inside k floats x total n w₀ (pre .ready .held) (pre .ready .fit .words-fit) (pre .some) w r h (t .left) st hst (t .front) p hp s is-said in
-        let d = length-drop st w in
-        let f = pre .ready .fit .words-fit in
-        let g = pre .starts-fit in
-        let m = t .long in
-        let fits : x .buckets ≤ length (drop st w) = omega (arith, d, f, g, m, hst) in
-        subst (CountRoom s) (sym (tail-is st w))
-        (record {
-          first-fits = omega (arith, ins .first-in, fits);
-          second-fits = omega (arith, ins .second-in, fits);
-          small = λ b c.
-              let q = bits-inside (x .buckets) s b ins c in
-              let z : getD (drop st w₀) b 0 ≡ 0 = subst (λ (a : ℕ). getD (drop a w₀) b 0 ≡ 0) (sym hst) (pre .zero b (omega arith)) in
-              let few = held-few k floats x total n w₀ (pre .ready .held) (pre .ready .fit .words-fit) (pre .some) w r h (t .left) st hst (t .front) p hp s is-said b in
-              omega (arith, z, t .counts b, few, pre .small b);
-        })
+    ins : Inside (x .buckets) s
+    ins = inside k floats x total n w₀ (pre .ready .held) (pre .ready .fit .words-fit) (pre .some) w r h (t .left) st hst (t .front) p hp s is-said
 
-    pub tallied-more : (v : List ℕ) → length v ≡ length (midOf st (length w - st) w) → ((b : ℕ) → getD v b 0 ≡ getD (midOf st (length w - st) w) b 0 + edgeBits s b)
+    pub mark-room : (s .first .to < length (midOf st (length w - st) w)) × (s .second .to < length (midOf st (length w - st) w))
+    mark-room =
+        let fits : x .buckets < length (midOf st (length w - st) w)
+        = omega (arith, ap length (tail-is st w), length-drop st w, pre .ready .fit .words-fit, pre .starts-fit, t .long, hst) in
+        (omega (arith, ins .first-in), omega (arith, ins .second-in))
+
+    pub tallied-more : (v : List ℕ) → length v ≡ length (midOf st (length w - st) w) → Marked (edgeBits s) (max (s .first .to) (s .second .to)) (midOf st (length w - st) w) v
         → Tallied k floats x total n st w₀ (putMid st (length w - st) w v) (r - 1)
-    tallied-more v lv d =
+    tallied-more v lv put =
         let fits : st ≤ length w = omega (arith, pre .ready .fit .words-fit, t .long, hst) in
+        let d : Marked (edgeBits s) (max (s .first .to) (s .second .to)) (drop st w) v
+        = subst (λ (q : List ℕ). Marked (edgeBits s) (max (s .first .to) (s .second .to)) q v) (tail-is st w) put in
+        let now : drop st (putMid st (length w - st) w v) ≡ v = back-rest st w v fits in
         let g = grow k floats x total n w₀ (pre .ready .held) (pre .ready .fit .words-fit) (pre .some) w r h (t .left) st hst (t .front) p hp s is-said in
         record {
           left = omega (arith, t .left);
           long = same-len-mid st (length w - st) w v lv ∙ t .long;
           front = take-put st (length w - st) w v fits ∙ t .front;
-          counts = λ b. ap (λ (q : List ℕ). getD q b 0) (back-rest st w v fits) ∙ omega (arith, d b, ap (λ (q : List ℕ). getD q b 0) (tail-is st w), t .counts b, g b);
+          tallies = λ b. ap (λ (q : List ℕ). tallyOf q b) now ∙ d .tallies b ∙ omega (arith, t .tallies b, g b);
+          rest = ap (drop (suc (x .buckets))) now ∙ d .rest (suc (x .buckets)) (omega (arith, ins .first-in, ins .second-in)) ∙ t .rest;
         }
 
 -- ---- the putting in: the buckets up to lo are done, and in those up to hi the edges from r on

@@ -1,11 +1,10 @@
 -- Buckets filled a strip after the other: those up to lo are done, those from lo up to hi hold the edges from r on, and the rest hold none.
 -- Assumes nothing.
-use mathlib.Core.Path.{_≡_, refl, sym, ap, _∙_}
+use mathlib.Core.Path.{_≡_, sym, ap, _∙_}
 use mathlib.Core.Logic.{⊎-elim}
-use mathlib.Core.Bool.{true, false, cond}
-use mathlib.Core.List.{List, [], _∷_}
-use Prim.Native.Nat.{ℕ, zero, _+_, _-_, _≤_, _<_, min, max}
-use native.Mathlib.Nat.{le-refl}
+use mathlib.Core.Bool.{false, cond}
+use mathlib.Core.List.{List, []}
+use Prim.Native.Nat.{ℕ, _+_, _-_, _≤_, _<_, min, max}
 use native.Mathlib.Omega.{arith}
 use lib.Dec.{ltb, leb}
 use lib.ListN.{length, drop}
@@ -13,7 +12,6 @@ use borrow.Author.Tests.{lt-ltb, le-ltb, le-leb, lt-leb}
 use Rattle.lists.specs.Lists.{consIf}
 use Rattle.lists.proofs.Cases.{lt-or-le}
 use Rattle.lists.proofs.Counting.{length-consIf}
-use Rattle.tables.specs.Scatter.{within}
 use Rattle.tables.proofs.Cells.{within-out}
 use Rattle.index.specs.declared.Stretch.{Stretch}
 use Rattle.index.specs.declared.Spans.{Spans}

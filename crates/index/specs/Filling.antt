@@ -1,4 +1,4 @@
--- What the passes of the building ask and do: noting each edge's buckets, counting, summing, and putting in, from the farthest edge to the nearest
+-- What the passes of the building ask and do: noting each edge's buckets, counting by marks, summing, and putting in, from the farthest edge to the nearest
 -- (`visibility.rs`, lines 503 to 528). The notes stand from `notesW` on, the starts from `startsW` on and the references from `refsW` on.
 -- Definitions only.
 use mathlib.Core.Path.{_≡_}
@@ -87,11 +87,14 @@ abbrev pub cutBoth : ℕ → ℕ → Spans → Spans
 cutBoth lo hi s = both (cutOf lo hi (s .first)) (cutOf lo hi (s .second))
 
 -- ---- one edge
--- its buckets lie in the starts, and no count passes a `u32`
-pub record CountRoom (s : Spans) (starts : List ℕ) : Type 0 where
-  pub first-fits : s .first .to ≤ length starts
-  pub second-fits : s .second .to ≤ length starts
-  pub small : (b : ℕ) → 0 < edgeBits s b → getD starts b 0 + edgeBits s b ≤ 4294967295
+-- what the marks at the places up to b come to, as a `u32` wraps
+abbrev pub tallyOf : List ℕ → ℕ → ℕ
+tallyOf l b = sumTo (λ j. getD l j 0) (suc b) % 4294967296
+
+-- they come to so many more at each place, and nothing past `end` was written
+pub record Marked (more : ℕ → ℕ) (end : ℕ) (l l' : List ℕ) : Type 0 where
+  pub tallies : (b : ℕ) → tallyOf l' b ≡ (tallyOf l b + more b) % 4294967296
+  pub rest : (m : ℕ) → end < m → drop m l' ≡ drop m l
 
 -- its buckets lie in the starts, which stand in front of the references, and each of their blocks has room
 pub record PutRoom (refs : ℕ) (s : Spans) (w : List ℕ) : Type 0 where
@@ -109,18 +112,16 @@ pub record PutBoth (refs : ℕ) (s : Spans) (id : ℕ) (w w' : List ℕ) : Type 
       → State h (λ b. consIf (covers (s .first) b) id (consIf (covers (s .second) b) id (F b))) m rest (take refs w') (drop refs w')
 
 -- ---- all edges
--- the counting: nothing is counted yet, and no count will pass a `u32`
+-- the counting
 pub record Counting (k : Rooms) (floats : List Float) (x : AngularIndex) (total : Float) (n : ℕ) (words : List ℕ) : Type 0 where
   pub ready : Ready k floats words n
   pub some : 0 < x .buckets
   pub starts-fit : x .buckets < k .starts
   pub noted : Noted k floats x total n words
-  pub small : (b : ℕ) → length (refsBy k floats x total (orderIn k words n) b) ≤ 4294967295
-  pub zero : (b : ℕ) → b ≤ x .buckets → getD (drop (startsW k) words) b 0 ≡ 0
 
 pub record Counted (k : Rooms) (floats : List Float) (x : AngularIndex) (total : Float) (n : ℕ) (words words' : List ℕ) : Type 0 where
-  pub front : take (startsW k) words' ≡ take (startsW k) words
-  pub counts : (b : ℕ) → getD (drop (startsW k) words') b 0 ≡ getD (drop (startsW k) words) b 0 + length (refsBy k floats x total (orderIn k words n) b)
+  pub only : Only (startsW k) (refsW k) words words'
+  pub tallies : (b : ℕ) → tallyOf (drop (startsW k) words') b ≡ (tallyOf (drop (startsW k) words) b + length (refsBy k floats x total (orderIn k words n) b)) % 4294967296
 
 -- the ends of the blocks: the counts summed up
 pub record Endable (k : Rooms) (floats : List Float) (x : AngularIndex) (total : Float) (n : ℕ) (words : List ℕ) : Type 0 where

@@ -1,7 +1,8 @@
 // The front edges by angle, and the cast of a ray: `AngularIndex` and `span_buckets` of `visibility.rs` (lines 480 to 590).
 // The edges stay where they stand in the work room. The index is an order of nearness, the starts of the buckets, and references, which are
 // places of edges: each list in its own stretch of the lent words. Every read of a cast is total.
-// Meanings: specs/Spans.antt (buckets), specs/Angular.antt (the index), specs/Casting.antt (the cast), specs/Stands.antt (where it stands).
+// Meanings: specs/Spans.antt (buckets), specs/Angular.antt (the index), specs/Casting.antt (the cast), specs/Stands.antt (where it stands),
+// specs/Filling.antt (the passes of the building).
 use geom::Reach;
 use geom::Vec2;
 use lists::wide;
@@ -10,9 +11,9 @@ use site::Cast;
 ghost use mathlib.Core.Path.{_≡_};
 ghost use mathlib.Core.Bool.{true};
 ghost use mathlib.Core.List.{[], map};
-ghost use Prim.Native.Nat.{ℕ, _+_, _<_, _≤_};
+ghost use Prim.Native.Nat.{ℕ, suc, _<_, _≤_, max};
 ghost use lib.ListN.{length, getD, take, drop};
-ghost use Rattle.lists.specs.Lists.{bit};
+ghost use Rattle.lists.specs.Lists.{bit, sumTo};
 ghost use Rattle.lists.specs.Parts.{part};
 ghost use Rattle.tables.specs.Scatter.{Room, Put};
 ghost use Rattle.geom.specs.Segment.{raySegmentWithin};
@@ -20,7 +21,7 @@ ghost use Rattle.room.specs.Records.{edgeAt};
 ghost use Rattle.index.specs.Spans.{bucketsFor, headOf, bucketOf, clipOf, spansBy, widthOf, covers, edgeBits};
 ghost use Rattle.index.specs.Casting.{betterOf, turnedOf, noneYet, walkOf, castWithin, castOf};
 ghost use Rattle.index.specs.Stands.{indexIn, Ready, Builds};
-ghost use Rattle.index.specs.Filling.{spansAt, refsTo, notesW, saidOf, saidBy, meetsOf, cutOf, cutBoth, Notable, Notes, CountRoom, Counting, Counted, Endable, Ended, PutRoom, PutBoth, Putting, Placed, Fillable, Filled};
+ghost use Rattle.index.specs.Filling.{spansAt, refsTo, notesW, saidOf, saidBy, meetsOf, cutOf, cutBoth, Notable, Notes, tallyOf, Marked, Counting, Counted, Endable, Ended, PutRoom, PutBoth, Putting, Placed, Fillable, Filled};
 
 const TAU: f64 = 6.283185307179586;
 
@@ -395,27 +396,47 @@ fn note_all(k: Rooms, x: AngularIndex, total: f64, floats: &[f64], n: usize, wor
 
 // ---- counting
 
-// One more at each bucket of a stretch.
-fn count_stretch(starts: &mut [u32], s: Stretch)
-    requires { ⌜ (s .to ≤ length (now starts)) × ((b : ℕ) → covers s b ≡ true → getD (now starts) b 0 < 4294967295) ⌝ }
-    ensures { λ _. ⌜ ((b : ℕ) → getD (now (starts .exit)) b 0 ≡ getD (now (starts .entry)) b 0 + bit (covers s b)) ⌝ }
+// Marks a stretch: one more at its first bucket and one less behind its last, both as a `u32` wraps. So what the marks up to a bucket come to is one more
+// in the stretch alone.
+fn mark_stretch(starts: &mut [u32], s: Stretch)
+    requires { ⌜ s .to < length (now starts) ⌝ }
+    ensures { λ _. ⌜ Marked (λ b. bit (covers s b)) (s .to) (now (starts .entry)) (now (starts .exit)) ⌝ }
 {
-    if s.from < s.to {
-        tables::count_row(starts, s.from, s.to);
+    let from = s.from;
+    let to = s.to;
+    if from < to {
+        starts[from] = std::num::wrapping_add_u32(starts[from], 1);
+        starts[to] = std::num::wrapping_sub_u32(starts[to], 1);
     }
 }
 
-// One more at each bucket of an edge.
-fn count_edge(starts: &mut [u32], s: Spans)
-    requires { ⌜ CountRoom s (now starts) ⌝ }
-    ensures { λ _. ⌜ ((b : ℕ) → getD (now (starts .exit)) b 0 ≡ getD (now (starts .entry)) b 0 + edgeBits s b) ⌝ }
+// Marks both stretches of an edge.
+fn mark_edge(starts: &mut [u32], s: Spans)
+    requires { ⌜ (s .first .to < length (now starts)) × (s .second .to < length (now starts)) ⌝ }
+    ensures { λ _. ⌜ Marked (edgeBits s) (max (s .first .to) (s .second .to)) (now (starts .entry)) (now (starts .exit)) ⌝ }
 {
-    count_stretch(&mut *starts, s.second);
-    count_stretch(starts, s.first);
+    mark_stretch(&mut *starts, s.second);
+    mark_stretch(starts, s.first);
 }
 
-// Counts, at each bucket, the edges that cover it.
-fn count_all(k: Rooms, x: AngularIndex, total: f64, floats: &[f64], n: usize, words: &mut [u32])
+// Writes, at each place up to n, the sum of what the marks up to each place in front of it and up to its own come to.
+fn sum_marks(starts: &mut [u32], n: usize)
+    requires { ⌜ (n < length (now starts)) × (sumTo (tallyOf (now starts)) (suc n) ≤ 4294967295) ⌝ }
+    ensures { λ _. ⌜ ((b : ℕ) → b ≤ n → getD (now (starts .exit)) b 0 ≡ sumTo (tallyOf (now (starts .entry))) (suc b)) ⌝ }
+{
+    let mut tally: u32 = 0;
+    let mut sum: u32 = 0;
+    let mut b: usize = 0;
+    while b <= n {
+        tally = std::num::wrapping_add_u32(tally, starts[b]);
+        sum += tally;
+        starts[b] = sum;
+        b += 1;
+    }
+}
+
+// Marks all edges: what the marks up to a bucket come to is how many edges cover it.
+fn mark_all(k: Rooms, x: AngularIndex, total: f64, floats: &[f64], n: usize, words: &mut [u32])
     requires { ⌜ Counting k (now floats) x total n (now words) ⌝ }
     ensures { λ _. ⌜ Counted k (now (floats .entry)) x total n (now (words .entry)) (now (words .exit)) ⌝ }
 {
@@ -431,7 +452,7 @@ fn count_all(k: Rooms, x: AngularIndex, total: f64, floats: &[f64], n: usize, wo
         } else {
             said(p)
         };
-        count_edge(&mut words[starts..], s);
+        mark_edge(&mut words[starts..], s);
         r -= 1;
     }
 }
@@ -453,8 +474,8 @@ fn block_ends(
     let last = starts + count;
     let end = last + 1;
     lists::clear32(&mut words[starts..end]);
-    count_all(k, x, total, floats, n, &mut *words);
-    tables::sum_up(&mut words[starts..end], count);
+    mark_all(k, x, total, floats, n, &mut *words);
+    sum_marks(&mut words[starts..end], count);
     wide(words[last])
 }
 

@@ -1,12 +1,12 @@
--- `count_all`: the edges from r on are counted. Assumes nothing.
+-- `mark_all`: the edges from r on are marked. Assumes nothing.
 use mathlib.Core.Path.{_∙_}
 use mathlib.Core.Logic.{⊎-elim}
 use Rattle.index.proofs.Notes.{not-said, is-said}
-use Rattle.index.proofs.Passes.{Tallied, tallied-none, count-room, tallied-more, tallied-all}
+use Rattle.index.proofs.Passes.{Tallied, tallied-none, mark-room, tallied-more, tallied-all}
 use borrow.Author.Needs.{needs}
 use native.Mathlib.Omega.{arith}
-use Rattle.index.proofs.count_all.Statement.{statement}
-use Rattle.index.proofs.count_all.Tie as tie
+use Rattle.index.proofs.mark_all.Statement.{statement}
+use Rattle.index.proofs.mark_all.Tie as tie
 
 abbrev Inv-loop : tie.InvT-loop
 Inv-loop k x total floats n words₀ order notes starts r₀ words r = Tallied k floats x total n starts words₀ words r
@@ -58,27 +58,27 @@ edge-spans-requires c κs = search needs
 said-requires : tie.Need-said-requires Inv-loop μ-loop
 said-requires c κs = search needs
 
-mul-count-edge : tie.Need-mul-count-edge Inv-loop μ-loop
-mul-count-edge c = omega (arith, c .before .before .before .before .before .starts-w .ensures, c .before .before .before .before .before .before .before .before .before .before .pre .ready .fit .words-fit, c .before .before .before .before .before .before .before .before .before .before .pre .ready .held, c .before .before .before .before .loop .inv .left, c .before .before .before .before .loop .inv .long)
+mul-mark-edge : tie.Need-mul-mark-edge Inv-loop μ-loop
+mul-mark-edge c = omega (arith, c .before .before .before .before .before .starts-w .ensures, c .before .before .before .before .before .before .before .before .before .before .pre .ready .fit .words-fit, c .before .before .before .before .before .before .before .before .before .before .pre .ready .held, c .before .before .before .before .loop .inv .left, c .before .before .before .before .loop .inv .long)
 
-sub-count-edge : tie.Need-sub-count-edge Inv-loop μ-loop
-sub-count-edge c = omega (arith, c .before .before .before .before .before .starts-w .ensures, c .before .before .before .before .before .before .before .before .before .before .pre .ready .fit .words-fit, c .before .before .before .before .before .before .before .before .before .before .pre .ready .held, c .before .before .before .before .loop .inv .left, c .before .before .before .before .loop .inv .long)
+sub-mark-edge : tie.Need-sub-mark-edge Inv-loop μ-loop
+sub-mark-edge c = omega (arith, c .before .before .before .before .before .starts-w .ensures, c .before .before .before .before .before .before .before .before .before .before .pre .ready .fit .words-fit, c .before .before .before .before .before .before .before .before .before .before .pre .ready .held, c .before .before .before .before .loop .inv .left, c .before .before .before .before .loop .inv .long)
 
-part-count-edge-start : tie.Need-part-count-edge-start Inv-loop μ-loop
-part-count-edge-start c = omega (arith, c .before .before .before .before .before .starts-w .ensures, c .before .before .before .before .before .before .before .before .before .before .pre .ready .fit .words-fit, c .before .before .before .before .before .before .before .before .before .before .pre .ready .held, c .before .before .before .before .loop .inv .left, c .before .before .before .before .loop .inv .long)
+part-mark-edge-start : tie.Need-part-mark-edge-start Inv-loop μ-loop
+part-mark-edge-start c = omega (arith, c .before .before .before .before .before .starts-w .ensures, c .before .before .before .before .before .before .before .before .before .before .pre .ready .fit .words-fit, c .before .before .before .before .before .before .before .before .before .before .pre .ready .held, c .before .before .before .before .loop .inv .left, c .before .before .before .before .loop .inv .long)
 
-part-count-edge-end : tie.Need-part-count-edge-end Inv-loop μ-loop
-part-count-edge-end c = search needs
+part-mark-edge-end : tie.Need-part-mark-edge-end Inv-loop μ-loop
+part-mark-edge-end c = search needs
 
-count-edge-requires : tie.Need-count-edge-requires Inv-loop μ-loop
-count-edge-requires c κs =
+mark-edge-requires : tie.Need-mark-edge-requires Inv-loop μ-loop
+mark-edge-requires c κs =
     let a = c .before .before .before .before .before .before .before .before .before .before .before in
     let l = c .before .before .before .before .before .loop in
     let st = c .before .before .before .before .before .before .starts-w in
     let no = c .before .before .before .before .before .before .before .notes-w in
     let ne = c .before .before .before .before .before .before .before .before .nearest-w in
     let s = c .before .if1 in
-    count-room (a .args .k) (a .args .floats .now) (a .args .x) (a .args .total) (a .args .n) (a .args .words .now) (a .pre) (st .result) (st .ensures) (l .words) (l .r) (c .before .before .before .before .loop-test .taken) (l .inv) (ne .result) (ne .ensures) (no .result) (no .ensures) (s .s) (⊎-elim (λ v. not-said _ _ (v .0 .taken) (v .2 ∙ v .1 .ensures)) (λ v. is-said _ _ (v .0 .left) (v .2 ∙ v .1 .ensures)) (s .came))
+    mark-room (a .args .k) (a .args .floats .now) (a .args .x) (a .args .total) (a .args .n) (a .args .words .now) (a .pre) (st .result) (st .ensures) (l .words) (l .r) (c .before .before .before .before .loop-test .taken) (l .inv) (ne .result) (ne .ensures) (no .result) (no .ensures) (s .s) (⊎-elim (λ v. not-said _ _ (v .0 .taken) (v .2 ∙ v .1 .ensures)) (λ v. is-said _ _ (v .0 .left) (v .2 ∙ v .1 .ensures)) (s .came))
 
 sub-r : tie.Need-sub-r Inv-loop μ-loop
 sub-r c = search needs
@@ -94,7 +94,7 @@ loop-again c =
     let no = c .before .before .before .before .before .before .before .before .before .before .notes-w in
     let ne = c .before .before .before .before .before .before .before .before .before .before .before .nearest-w in
     let s = c .before .before .before .before .if1 in
-    let done = c .before .before .count-edge in
+    let done = c .before .before .mark-edge in
     tallied-more (a .args .k) (a .args .floats .now) (a .args .x) (a .args .total) (a .args .n) (a .args .words .now) (a .pre) (st .result) (st .ensures) (l .words) (l .r) (c .before .before .before .before .before .before .before .loop-test .taken) (l .inv) (ne .result) (ne .ensures) (no .result) (no .ensures) (s .s) (⊎-elim (λ v. not-said _ _ (v .0 .taken) (v .2 ∙ v .1 .ensures)) (λ v. is-said _ _ (v .0 .left) (v .2 ∙ v .1 .ensures)) (s .came)) (done .last .0) (done .kept .0) (done .ensures)
 
 same-length : tie.Need-same-length Inv-loop μ-loop
@@ -107,8 +107,8 @@ returns c =
     let st = c .before .before .starts-w in
     tallied-all (a .args .k) (a .args .floats .now) (a .args .x) (a .args .total) (a .args .n) (a .args .words .now) (a .pre) (st .result) (st .ensures) (l .words) (l .r) (omega arith) (l .inv)
 
-pub count-all-spec : {M : Type 1} → statement M
-count-all-spec =
+pub mark-all-spec : {M : Type 1} → statement M
+mark-all-spec =
     tie.close
     (tie.spec
     Inv-loop
@@ -127,11 +127,11 @@ count-all-spec =
     slice-read-p
     edge-spans-requires
     said-requires
-    mul-count-edge
-    sub-count-edge
-    part-count-edge-start
-    part-count-edge-end
-    count-edge-requires
+    mul-mark-edge
+    sub-mark-edge
+    part-mark-edge-start
+    part-mark-edge-end
+    mark-edge-requires
     sub-r
     loop-less
     loop-again
