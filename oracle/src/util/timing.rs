@@ -24,6 +24,10 @@ const FEW_RUNS: Runs = Runs {
     time: Duration::from_secs(3),
 };
 
+/// How long small and large calls take turns, and how long a turn is, or one run if that is longer.
+const GROWTH: Duration = Duration::from_secs(15);
+const TURN: Duration = Duration::from_millis(100);
+
 /// Inputs per run: too many for the branch predictor to learn by heart.
 pub const INPUTS: usize = 1 << 16;
 
@@ -94,6 +98,13 @@ impl Best {
     }
 }
 
+/// Both sides of a call, and what they are timed on.
+pub trait Sides<I> {
+    fn inputs(&self) -> &[I];
+    fn ours(&self, input: I) -> u64;
+    fn rust(&self, input: I) -> u64;
+}
+
 /// A table of timings.
 pub struct Bench(Table);
 
@@ -152,6 +163,10 @@ impl Bench {
             b.run(inputs, &rust);
             run += 1;
         }
+        self.row(what, limit, a, b);
+    }
+
+    fn row(&mut self, what: &str, limit: Limit, a: Best, b: Best) {
         let ratios = (a.throughput / b.throughput, a.latency / b.latency);
         self.0.row(vec![
             what.to_string(),
@@ -164,6 +179,32 @@ impl Bench {
             limit.show(),
             limit.verdict(&[ratios.0, ratios.1]),
         ]);
+    }
+
+    /// How many times as long the large calls take as the small ones, on either side. The small and the
+    /// large take turns, so that a slow while of the machine falls on both; within a turn the two sides do.
+    pub fn add_growth<I: Input, S: Sides<I>>(&mut self, what: &str, small: &S, large: &S) {
+        let mut best = [Best::NONE; 4];
+        let begin = Instant::now();
+        while begin.elapsed() < GROWTH {
+            for (size, sides) in [small, large].into_iter().enumerate() {
+                let turn = Instant::now();
+                while turn.elapsed() < TURN {
+                    best[2 * size].run(sides.inputs(), &|i| sides.ours(i));
+                    best[2 * size + 1].run(sides.inputs(), &|i| sides.rust(i));
+                }
+            }
+        }
+        let grown = |large: Best, small: Best| Best {
+            throughput: large.throughput / small.throughput,
+            latency: large.latency / small.latency,
+        };
+        self.row(
+            what,
+            Limit::Times(1.0),
+            grown(best[2], best[0]),
+            grown(best[3], best[1]),
+        );
     }
 
     /// Times runs that answer so many questions each, per question. The answers do not wait for each

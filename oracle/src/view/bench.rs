@@ -6,7 +6,7 @@ use crate::scene::given::{self, Given};
 use crate::sites::Plan;
 use crate::util::arena;
 use crate::util::rng::SplitMix64;
-use crate::util::timing::{Bench, Limit};
+use crate::util::timing::{Bench, Limit, Sides};
 use plain::{Scene, SceneConfig, Vec2, ViewCone, VisibilityOptions, compute_visibility};
 use std::cell::RefCell;
 use std::f64::consts::{FRAC_PI_2, TAU};
@@ -17,9 +17,11 @@ const POSTS: usize = 16;
 const TOLERANCE: f64 = 0.1;
 const LIMIT: Limit = Limit::Times(1.2);
 
+const RANGES: [f64; 3] = [100.0, 300.0, 1_000.0];
+
 pub fn bench(table: &mut Bench) {
     let r = &mut SplitMix64::new(2_001);
-    for polygons in SIZES {
+    let sites = SIZES.map(|polygons| {
         let config = SceneConfig {
             width: SIDE,
             height: SIDE,
@@ -27,119 +29,187 @@ pub fn bench(table: &mut Bench) {
             seed: 0x5EED,
         };
         let scene = Scene::random(&config);
-        let ring = |id: usize| {
-            scene
-                .polygon_vertices(id as u32)
-                .iter()
-                .map(|v| (v.x, v.y))
-                .collect()
-        };
-        let plan = Plan {
-            size: (SIDE, SIDE),
-            rings: (0..polygons).map(ring).collect(),
-        };
+        let plan = plan(&scene);
         let given = Given::new(&plan);
         let mut site = Lent::blank(given::rooms(&given::of_scene(&plan.scene())));
         assert!(
             site.build(given.size, &given.points, &given.lens) == 0,
             "a site of ours"
         );
-        for range in [100.0, 300.0, 1_000.0] {
+        (scene, site)
+    });
+    let mut full = Vec::new();
+    for (scene, site) in &sites {
+        for range in RANGES {
             for (what, fov) in [("full", 7.0), ("90 degrees", FRAC_PI_2)] {
+                let polygons = scene.polygons().len();
                 let what = format!("{polygons} polygons, range {range}, {what}");
-                views(table, r, &scene, &site, range, fov, &what);
+                let views = Views::new(r, scene, site, range, fov);
+                views.rows(table, &what);
+                if fov > TAU {
+                    full.push(views);
+                }
             }
         }
     }
+    let (smallest, largest) = (&full[..RANGES.len()], &full[full.len() - RANGES.len()..]);
+    for ((range, small), large) in RANGES.iter().zip(smallest).zip(largest) {
+        let (first, last) = (SIZES[0], SIZES[SIZES.len() - 1]);
+        table.add_growth(
+            &format!(
+                "growth of an outline without the table test, {first} to {last} polygons, range {range}, full"
+            ),
+            small,
+            large,
+        );
+    }
 }
 
-fn views(
-    table: &mut Bench,
-    r: &mut SplitMix64,
-    scene: &Scene,
-    site: &Lent,
+/// The plan of a site of the Rust's.
+fn plan(scene: &Scene) -> Plan {
+    let ring = |id: usize| {
+        scene
+            .polygon_vertices(id as u32)
+            .iter()
+            .map(|v| (v.x, v.y))
+            .collect()
+    };
+    Plan {
+        size: (SIDE, SIDE),
+        rings: (0..scene.polygons().len()).map(ring).collect(),
+    }
+}
+
+/// Views of one site, from posts in the open, and the room for them.
+struct Views<'a> {
+    scene: &'a Scene,
+    site: &'a Lent,
     range: f64,
     fov: f64,
-    what: &str,
-) {
-    let mut posts: Vec<[f64; 3]> = Vec::new();
-    while posts.len() < POSTS {
-        let (x, y) = (r.between(0.0, SIDE), r.between(0.0, SIDE));
-        if scene.polygon_at(Vec2::new(x, y)).is_none() {
-            posts.push([x, y, r.between(-3.0, 3.0)]);
+    posts: Vec<[f64; 3]>,
+    needs: Entries,
+    work: RefCell<Work>,
+}
+
+impl<'a> Views<'a> {
+    fn new(r: &mut SplitMix64, scene: &'a Scene, site: &'a Lent, range: f64, fov: f64) -> Self {
+        let mut posts: Vec<[f64; 3]> = Vec::new();
+        while posts.len() < POSTS {
+            let (x, y) = (r.between(0.0, SIDE), r.between(0.0, SIDE));
+            if scene.polygon_at(Vec2::new(x, y)).is_none() {
+                posts.push([x, y, r.between(-3.0, 3.0)]);
+            }
+        }
+        // The room is cleared as far as it is lent, so no more is lent than is needed.
+        let (needs, points, ids) = needs(scene, &posts, range, fov);
+        let (floats, words) = room_for(needs);
+        let work = RefCell::new(Work {
+            marks: vec![0; scene.polygons().len()],
+            epoch: 0,
+            floats: vec![0.0; floats],
+            words: vec![0; words],
+            outline: vec![0.0; points],
+            visible: vec![0; ids],
+        });
+        Self {
+            scene,
+            site,
+            range,
+            fov,
+            posts,
+            needs,
+            work,
         }
     }
-    // The room is cleared as far as it is lent, so no more is lent than is needed.
-    let (needs, points, ids) = needs(scene, &posts, range, fov);
-    let (floats, words) = room_for(needs);
-    let work = RefCell::new(Work {
-        marks: vec![0; scene.polygons().len()],
-        epoch: 0,
-        floats: vec![0.0; floats],
-        words: vec![0; words],
-        outline: vec![0.0; points],
-        visible: vec![0; ids],
-    });
-    let cone = |[x, y, direction]: [f64; 3]| Cone {
-        post: (x, y),
-        range,
-        direction,
-        fov,
-    };
-    let opts = VisibilityOptions::default();
-    let rust = |[x, y, direction]: [f64; 3]| {
-        let v = compute_visibility(
-            scene,
-            &ViewCone::sector(Vec2::new(x, y), range, direction, fov),
-            &opts,
+
+    fn cone(&self, [x, y, direction]: [f64; 3]) -> Cone {
+        Cone {
+            post: (x, y),
+            range: self.range,
+            direction,
+            fov: self.fov,
+        }
+    }
+
+    /// Ours without the test of the tables.
+    fn inner(&self, post: [f64; 3]) -> u64 {
+        let (status, answer) = self.site.inner_outline(
+            self.cone(post),
+            TOLERANCE,
+            self.needs,
+            &mut self.work.borrow_mut(),
         );
-        v.polygon.len() as u64
-    };
-    let inner = |p: [f64; 3]| {
-        let (status, answer) =
-            site.inner_outline(cone(p), TOLERANCE, needs, &mut work.borrow_mut());
         assert!(status == 0, "room enough");
         answer[2]
-    };
-    table.add_few(
-        &format!("outline without the table test, {what}"),
-        LIMIT,
-        &posts,
-        inner,
-        rust,
-    );
-    // The Rust allocates its lists, ours are lent: on small sites that is some of its time.
-    if fov > TAU {
+    }
+
+    /// Ours with it.
+    fn tested(&self, post: [f64; 3]) -> u64 {
+        self.site
+            .outline(
+                self.cone(post),
+                TOLERANCE,
+                self.needs,
+                &mut self.work.borrow_mut(),
+            )
+            .1[2]
+    }
+
+    /// The Rust as published.
+    fn published(&self, [x, y, direction]: [f64; 3]) -> u64 {
+        let v = compute_visibility(
+            self.scene,
+            &ViewCone::sector(Vec2::new(x, y), self.range, direction, self.fov),
+            &VisibilityOptions::default(),
+        );
+        v.polygon.len() as u64
+    }
+
+    fn rows(&self, table: &mut Bench, what: &str) {
         table.add_few(
-            &format!("outline without the table test, the Rust's allocation free, {what}"),
+            &format!("outline without the table test, {what}"),
+            LIMIT,
+            &self.posts,
+            |p| self.inner(p),
+            |p| self.published(p),
+        );
+        // The Rust allocates its lists, ours are lent: on small sites that is some of its time.
+        if self.fov > TAU {
+            table.add_few(
+                &format!("outline without the table test, the Rust's allocation free, {what}"),
+                Limit::None,
+                &self.posts,
+                |p| self.inner(p),
+                |p| arena::free(|| self.published(p)),
+            );
+        }
+        table.add_few(
+            &format!("outline, {what}"),
             Limit::None,
-            &posts,
-            inner,
-            |p| arena::free(|| rust(p)),
+            &self.posts,
+            |p| self.tested(p),
+            |p| self.published(p),
         );
     }
-    let ours = |p: [f64; 3]| {
-        site.outline(cone(p), TOLERANCE, needs, &mut work.borrow_mut())
-            .1[2]
-    };
-    table.add_few(&format!("outline, {what}"), Limit::None, &posts, ours, rust);
+}
+
+impl Sides<[f64; 3]> for Views<'_> {
+    fn inputs(&self) -> &[[f64; 3]] {
+        &self.posts
+    }
+
+    fn ours(&self, post: [f64; 3]) -> u64 {
+        self.inner(post)
+    }
+
+    fn rust(&self, post: [f64; 3]) -> u64 {
+        self.published(post)
+    }
 }
 
 /// The greatest needs of the views, by the oracle's seams; numbers of the outline; visible ids.
 fn needs(scene: &Scene, posts: &[[f64; 3]], range: f64, fov: f64) -> (Entries, usize, usize) {
-    let plan = Plan {
-        size: (SIDE, SIDE),
-        rings: (0..scene.polygons().len())
-            .map(|id| {
-                scene
-                    .polygon_vertices(id as u32)
-                    .iter()
-                    .map(|v| (v.x, v.y))
-                    .collect()
-            })
-            .collect(),
-    };
-    let theirs = plan.scene();
+    let theirs = plan(scene).scene();
     let (mut most, mut points, mut ids) = ([1; 9], 0, 0);
     for &[x, y, direction] in posts {
         let c = Cone {
