@@ -1,3 +1,3 @@
 -- What the functions of `answers` mean.
-pub mod Numbers
+pub mod Head
 pub mod Outcomes

@@ -1,6 +1,6 @@
 // Answers as plain numbers, for callers that have no enums: the C interface (crate `exports_scene`) and the probe. An answer is a status, 0 or document 01's
 // number of the refusal, and its values, which are zeros where it is refused ("Each refusal carries its number and zero counts"). A head of a site is six
-// floats and five numbers. Meanings: specs/Numbers.antt.
+// floats and five numbers (specs/Head.antt). Meanings: `specs/Numbers.antt` of the crates `grid`, `build` and `scene`, whose answers they are.
 use build::Made;
 use geom::Aabb;
 use geom::Vec2;
@@ -21,7 +21,10 @@ use site::Cast;
 use site::Site;
 ghost use mathlib.Core.Path.{_≡_};
 ghost use Rattle.grid.specs.Boxes.{boxAt};
-ghost use Rattle.answers.specs.Numbers.{siteOf, madeStatus, madeFloats, madeCounts, listedStatus, listedCounts, extentStatus, extentValue, boundsStatus, boundsFour, dimsStatus, dimsTwo, shapeStatus, shapePlace, shapeFour, segmentStatus, segmentFour, indexStatus, indexValue, countStatus, countValue, stampsStatus, foundStatus, foundTwo, lookStatus, lookDistance, lookThree, distanceOf, hitOf, edgeOf, whoseTwo};
+ghost use Rattle.grid.specs.Numbers.{listedStatus, listedCounts};
+ghost use Rattle.build.specs.Numbers.{madeStatus, madeFloats, madeCounts};
+ghost use Rattle.scene.specs.Numbers.{extentStatus, extentValue, boundsStatus, boundsFour, dimsStatus, dimsTwo, shapeStatus, shapePlace, shapeFour, segmentStatus, segmentFour, indexStatus, indexValue, countStatus, countValue, stampsStatus, foundStatus, foundTwo, lookStatus, lookDistance, lookThree, castDistance, castHit, castEdge, whoseTwo};
+ghost use Rattle.answers.specs.Head.{siteOf};
 
 // ---- what goes in
 
@@ -335,7 +338,7 @@ pub fn put_whose(out: &mut [u32; 2], a: Whose)
 // ---- a cast: its distance; 1 and the edge, or zeros
 
 pub fn distance_of(a: Cast) -> f64
-    ensures { λ r. ⌜ r ≡ distanceOf a ⌝ }
+    ensures { λ r. ⌜ r ≡ castDistance a ⌝ }
 {
     match a {
         Cast::Hit(t, _) => t,
@@ -344,7 +347,7 @@ pub fn distance_of(a: Cast) -> f64
 }
 
 pub fn hit_of(a: Cast) -> u32
-    ensures { λ r. ⌜ r ≡ hitOf a ⌝ }
+    ensures { λ r. ⌜ r ≡ castHit a ⌝ }
 {
     match a {
         Cast::Hit(_, _) => 1,
@@ -353,7 +356,7 @@ pub fn hit_of(a: Cast) -> u32
 }
 
 pub fn edge_of(a: Cast) -> u32
-    ensures { λ r. ⌜ r ≡ edgeOf a ⌝ }
+    ensures { λ r. ⌜ r ≡ castEdge a ⌝ }
 {
     match a {
         Cast::Hit(_, e) => e,

@@ -2,7 +2,7 @@
 -- that every question asks first. Assumes nothing.
 use mathlib.Core.Path.{_≡_, refl, sym, ap, _∙_}
 use mathlib.Core.Logic.{⊎-elim}
-use mathlib.Core.Bool.{true, false, _&&_, false≢true}
+use mathlib.Core.Bool.{true, false, false≢true}
 use mathlib.Core.List.{List, [], _∷_}
 use Prim.Native.Nat.{ℕ, _+_, _-_, _*_, _≤_, _<_}
 use native.Mathlib.Nat.{le-trans, le-of-eq}
@@ -12,7 +12,6 @@ use lib.Ieee.{Float, nan, inf, le, lt, eq}
 use Rattle.lists.specs.Lists.{joined}
 use Rattle.lists.specs.Parts.{padded}
 use Rattle.lists.specs.Members.{All}
-use Rattle.lists.proofs.AllTo.{both, allTo-at}
 use Rattle.lists.proofs.Cases.{lt-or-le}
 use Rattle.lists.proofs.Joined.{all-joined}
 use Rattle.lists.proofs.Members.{all-at, in-all}
@@ -20,7 +19,7 @@ use Rattle.lists.proofs.Sums.{sumTo-const}
 use Rattle.lists.proofs.Zeros.{length-padded, getD-padded}
 use Rattle.num.specs.Ops.{_⊘_, zeroF, oneF}
 use Rattle.geom.specs.Box.{emptyBox, isEmptyOf}
-use Rattle.bounds.specs.Domain.{inDomain, inSize}
+use Rattle.bounds.specs.Domain.{inDomain}
 use Rattle.grid.specs.Boxes.{boxAt}
 use Rattle.grid.specs.declared.Grid.{Grid}
 use Rattle.grid.specs.declared.Range.{Range}
@@ -38,7 +37,8 @@ use Rattle.site.proofs.SoundLaws.{tested}
 use Rattle.build.specs.declared.Plan.{Plan}
 use Rattle.build.specs.declared.Plan.the-variants.{Go, Refuse}
 use Rattle.build.specs.Stored.{lenIn, firstIn, storedOf, storedBox, storedBoxes, pointsOf, boxNumbers, boxesTable, polygonsTable, ownersTable, gridBy, boundsIn, cellIn, gridOf, spanIn}
-use Rattle.build.specs.Refusals.{pointsIn, numbersIn, allInside, itemCount, Counted}
+use Rattle.build.specs.Refusals.{pointsIn, itemCount, Counted}
+use Rattle.build.specs.Checks.{Inside}
 use Rattle.build.specs.Outcome.{siteOf, planOf, tablesOf, outcomeBy, roomsOf, outcome, Does}
 use Rattle.build.specs.declared.Made.the-variants as made
 use Rattle.build.proofs.Orders.{held, points-length, box-few}
@@ -49,26 +49,14 @@ use Rattle.build.proofs.Loading.{load-size}
 use Rattle.build.proofs.Domain.{InDomain, stored-in, box-same}
 use Rattle.build.proofs.Laid.{first-is, len-is, box-right, owner-is, block-of}
 use Rattle.build.proofs.Making.{roomy, limited, grid-of}
-
--- ---- what has been tested of the numbers
-pub record Inside (width height : Float) (given : List Float) : Type 0 where
-  pub width-in : inSize width ≡ true
-  pub height-in : inSize height ≡ true
-  pub number-in : (i : ℕ) → i < length given → inDomain (getD given i nan) ≡ true
-
-pub inside : (width height : Float) (given : List Float) → allInside width height given ≡ true → Inside width height given
-unfolding allInside numbersIn
-inside width height given e =
-    let a = both (inSize width && inSize height) (numbersIn given) e in
-    let b = both (inSize width) (inSize height) (a .0) in
-    record { width-in = b .0; height-in = b .1; number-in = allTo-at (λ i. inDomain (getD given i nan)) (length given) (a .1) }
+use Rattle.build.proofs.RefusedWhen.{inside}
 
 -- ---- the head
 pub head : (width height : Float) (given : List Float) (lens : List ℕ) → length lens ≤ 4096 → Inside width height given → SoundHead (boundsIn width height given lens) (cellIn width height given lens)
 unfolding boundsIn cellIn storedBoxes storedBox
 head width height given lens f i =
     head-sound (loadOf width) (loadOf height) (length lens) (storedOf given lens)
-    (record { width-in = load-size width (i .width-in); height-in = load-size height (i .height-in); few = f; points-in = λ k l. unfold storedOf in stored-in given (firstIn lens k) (lenIn lens k) (i .number-in) })
+    (record { width-in = load-size width (i .width-in); height-in = load-size height (i .height-in); few = f; points-in = λ k l. unfold storedOf in stored-in given (firstIn lens k) (lenIn lens k) (i .numbers-in) })
 
 -- ---- how long the tables are
 polygons-length : (lens : List ℕ) → length (polygonsTable lens) ≡ length lens * 2
@@ -188,12 +176,12 @@ module _ (width height : Float) (given : List Float) (lens : List ℕ) (lent : T
         width-in = load-size width (i .width-in);
         height-in = load-size height (i .height-in);
         origin-in = h .0;
-        point-in = point-placed given lens (length (lent .points)) c (all-placed given lens (i .number-in));
+        point-in = point-placed given lens (length (lent .points)) c (all-placed given lens (i .numbers-in));
         cell-least = h .1;
         cell-finite = h .2;
         inverse = h .3;
         inside = λ k q. rw (first-is lens (length (lent .polygons)) k q, len-is lens (length (lent .polygons)) k q) (omega (arith, held given lens k c q));
-        box-right = λ k q. box-placed given lens (length (lent .points)) (length (lent .polygons)) (length (lent .boxes)) k c (i .number-in) q;
+        box-right = λ k q. box-placed given lens (length (lent .points)) (length (lent .polygons)) (length (lent .boxes)) k c (i .numbers-in) q;
         first-start = tabled.start-at sp n (g .cols) (g .rows) (length (lent .starts)) (length (lent .items)) fit room 0 (omega arith);
         rise = tabled.built-sound sp n (g .cols) (g .rows) (length (lent .starts)) (length (lent .items)) fit room (l .has-cols) (l .has-rows) .rise;
         last-start = tabled.last-is sp n (g .cols) (g .rows) (length (lent .starts)) (length (lent .items)) fit room;

@@ -1,6 +1,6 @@
 -- The ways through the decision: each refusal, and what is known of a site that is to be made. Assumes nothing.
 use mathlib.Core.Path.{_≡_, refl}
-use mathlib.Core.Bool.{Bool, true, false, _||_, cond, true≢false}
+use mathlib.Core.Bool.{Bool, true, false, cond}
 use mathlib.Core.List.{List}
 use Prim.Native.Nat.{ℕ, _*_, _≤_, _<_}
 use native.Mathlib.Nat.{le-trans, le-mul-of-pos-right, mul-comm}
@@ -9,7 +9,7 @@ use lib.ListN.{length}
 use lib.Dec.{ltb}
 use lib.Ieee.{Float}
 use borrow.Author.Tests.{ltb-true, ltb-false, leb-true, eqb-true, le-leb}
-use Rattle.lists.proofs.AllTo.{both}
+use Rattle.lists.proofs.AllTo.{both, neither}
 use Rattle.num.specs.Ops.{_⊘_, oneF}
 use Rattle.geom.specs.declared.Aabb.{Aabb}
 use Rattle.geom.specs.Box.{widthOf, heightOf}
@@ -25,6 +25,7 @@ use Rattle.build.specs.declared.Plan.{Plan}
 use Rattle.build.specs.declared.Plan.the-variants.{Go, Refuse}
 use Rattle.build.specs.Stored.{firstIn, storedBoxes, gridBy, boundsIn, cellIn, gridOf}
 use Rattle.build.specs.Refusals.{pointsIn, tooMany, addsUp, allInside, fewCells, itemCount, hasRoom, Counted}
+use Rattle.build.specs.Checks.{Space}
 use Rattle.build.specs.Outcome.{siteOf, planBy, planOf}
 
 -- ---- the numbers of cells
@@ -57,15 +58,6 @@ module _ (width height : Float) (g : Grid) (given : List Float) (lens : List ℕ
   some-room w h f p q = rw (few, ← e, ← d, f, p, q)
 
 -- ---- the room, table by table
-pub record Space (room : Rooms) (polygons points cells items : ℕ) : Type 0 where
-  pub points-fit : 2 * points ≤ room .points
-  pub boxes-fit : 4 * polygons ≤ room .boxes
-  pub polygons-fit : 2 * polygons ≤ room .polygons
-  pub owners-fit : points ≤ room .owners
-  pub starts-fit : cells < room .starts
-  pub items-fit : items ≤ room .items
-  pub few-items : items ≤ 4294967295
-
 pub space : (room : Rooms) (polygons points cells items : ℕ) → hasRoom room polygons points cells items ≡ true → Space room polygons points cells items
 unfolding hasRoom
 space room polygons points cells items e =
@@ -119,20 +111,16 @@ module _ (width height : Float) (given : List Float) (lens : List ℕ) (room : R
       unfolding planOf
       inside-way e = rw (a, b, e)
 
-or-false : (t u : Bool) → (t || u) ≡ false → (t ≡ false) × (u ≡ false)
-or-false false u e = (refl, e)
-or-false true u e = absurd (true≢false e)
-
 pub few-polygons : (given : List Float) (lens : List ℕ) → tooMany given lens ≡ false → length lens ≤ 4096
 unfolding tooMany
-few-polygons given lens e = ltb-false 4096 (length lens) (or-false (ltb 4096 (length lens)) (ltb 65536 (pointsIn given)) e .0)
+few-polygons given lens e = ltb-false 4096 (length lens) (neither (ltb 4096 (length lens)) (ltb 65536 (pointsIn given)) e .0)
 
 pub counted : (given : List Float) (lens : List ℕ) → tooMany given lens ≡ false → addsUp given lens ≡ true → Counted given lens
 unfolding tooMany addsUp
 counted given lens e f =
-    let m : pointsIn given ≤ 65536 = ltb-false 65536 (pointsIn given) (or-false (ltb 4096 (length lens)) (ltb 65536 (pointsIn given)) e .1) in
+    let m : pointsIn given ≤ 65536 = ltb-false 65536 (pointsIn given) (neither (ltb 4096 (length lens)) (ltb 65536 (pointsIn given)) e .1) in
     let s : 2 * firstIn lens (length lens) ≡ length given = eqb-true (2 * firstIn lens (length lens)) (length given) f in
-    record { few-polygons = ltb-false 4096 (length lens) (or-false (ltb 4096 (length lens)) (ltb 65536 (pointsIn given)) e .0); few-points = omega arith; adds-up = s }
+    record { few-polygons = ltb-false 4096 (length lens) (neither (ltb 4096 (length lens)) (ltb 65536 (pointsIn given)) e .0); few-points = omega arith; adds-up = s }
 
 -- ---- a site that is to be made
 pub record Going (width height : Float) (given : List Float) (lens : List ℕ) (room : Rooms) (s : Site) : Type 0 where

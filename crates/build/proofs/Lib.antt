@@ -1,4 +1,4 @@
--- Laws behind the proofs of `build`, and the theorems: BuiltSound, BuiltIndex, Only, Refusing.
+-- Laws behind the proofs of `build`, and the theorems: BuiltSound, BuiltIndex, Only, Refusing, RefusedWhen.
 pub mod Orders
 pub mod Writing
 pub mod Spans
@@ -11,3 +11,4 @@ pub mod BuiltSound
 pub mod BuiltIndex
 pub mod Only
 pub mod Refusing
+pub mod RefusedWhen

@@ -11,17 +11,18 @@ use Rattle.lists.specs.Parts.{padded}
 use Rattle.num.specs.Ops.{zeroF}
 use Rattle.grid.specs.declared.Grid.{Grid}
 use Rattle.extent.specs.Extent.{colsOf, rowsOf}
-use Rattle.tables.specs.Tables.{Limits, itemsOf, startOf}
+use Rattle.tables.specs.Tables.{Limits, itemsOf, cellStart}
 use Rattle.site.specs.declared.Site.{Site}
 use Rattle.site.specs.Tables.{Tables, tables, boxOf}
 use Rattle.build.specs.declared.Rooms.{Rooms}
 use Rattle.build.specs.declared.Plan.the-variants.{Go, Refuse}
 use Rattle.build.specs.Stored.{firstIn, pointsOf, boxNumbers, boxesTable, polygonsTable, ownersTable, gridBy, gridOf, spanIn}
 use Rattle.build.specs.Refusals.{pointsIn, itemCount, Counted}
+use Rattle.build.specs.Checks.{Space}
 use Rattle.build.specs.Outcome.{siteOf, planOf, tablesOf, outcomeBy, roomsOf, outcome, Does, spanAt, Indexable}
 use Rattle.build.specs.declared.Made.the-variants as made
 use Rattle.build.proofs.Spans.{items-ext, starts-ext}
-use Rattle.build.proofs.Deciding.{Space, space, Going, going, some-columns, cells-limits}
+use Rattle.build.proofs.Deciding.{space, Going, going, some-columns, cells-limits}
 use Rattle.build.proofs.Laid.{span-right, boxes-right}
 
 module _ (width height : Float) (given : List Float) (lens : List ℕ) (room : Rooms) (s : Site) (w : Going width height given lens room s) where
@@ -76,8 +77,8 @@ module _ (width height : Float) (given : List Float) (lens : List ℕ) (room : R
     pub boxes-made : (r : ℕ) (boxes : List Float) → boxes ≡ padded zeroF r (joined (λ k. boxNumbers (boxOf points polygons k)) (s .polygons)) → boxes ≡ padded zeroF r (boxesTable given lens)
     boxes-made r boxes e = rw (e, polygons-of, p, q) (ap (padded zeroF r) (boxes-right given lens (w .counts) m n))
 
-    pub starts-made : (r : ℕ) (starts : List ℕ) → starts ≡ padded 0 r (listed (startOf (spanAt (s .grid) points polygons) (s .polygons) (s .grid .cols)) (s .grid .cols * s .grid .rows + 1))
-        → starts ≡ padded 0 r (listed (startOf (spanIn (s .grid) given lens) (length lens) (s .grid .cols)) (s .grid .cols * s .grid .rows + 1))
+    pub starts-made : (r : ℕ) (starts : List ℕ) → starts ≡ padded 0 r (listed (cellStart (spanAt (s .grid) points polygons) (s .polygons) (s .grid .cols)) (s .grid .cols * s .grid .rows + 1))
+        → starts ≡ padded 0 r (listed (cellStart (spanIn (s .grid) given lens) (length lens) (s .grid .cols)) (s .grid .cols * s .grid .rows + 1))
     starts-made r starts e =
         rw (e, polygons-of) (ap (padded 0 r) (starts-ext (spanAt (s .grid) points polygons) (spanIn (s .grid) given lens) (length lens) (s .grid .cols) (spans (s .grid)) (s .grid .cols * s .grid .rows + 1)))
 
@@ -95,7 +96,7 @@ module _ (width height : Float) (given : List Float) (lens : List ℕ) (lent : T
   pub made-way : (s : Site) → planOf width height given lens (roomsOf lent) ≡ Go s → (points boxes : List Float) (polygons owners starts items : List ℕ)
       → points ≡ padded zeroF (length (lent .points)) (pointsOf given lens) → polygons ≡ padded 0 (length (lent .polygons)) (polygonsTable lens) → owners ≡ padded 0 (length (lent .owners)) (ownersTable lens)
       → boxes ≡ padded zeroF (length (lent .boxes)) (joined (λ k. boxNumbers (boxOf points polygons k)) (s .polygons))
-      → starts ≡ padded 0 (length (lent .starts)) (listed (startOf (spanAt (s .grid) points polygons) (s .polygons) (s .grid .cols)) (s .grid .cols * s .grid .rows + 1))
+      → starts ≡ padded 0 (length (lent .starts)) (listed (cellStart (spanAt (s .grid) points polygons) (s .polygons) (s .grid .cols)) (s .grid .cols * s .grid .rows + 1))
       → items ≡ padded 0 (length (lent .items)) (itemsOf (spanAt (s .grid) points polygons) (s .polygons) (s .grid .cols) (s .grid .cols * s .grid .rows))
       → Does (outcome width height given lens lent) (made.Site s) (tables points boxes polygons owners starts items)
   unfolding outcome outcomeBy tablesOf

@@ -22,7 +22,7 @@ use Rattle.grid.specs.Range.{rangeOf}
 use Rattle.extent.specs.declared.Sides.{Sides}
 use Rattle.extent.specs.Extent.{boundsOf, joinBoxOf, sidesOf, addSideOf}
 use Rattle.extent.proofs.Steps.{bounds-next, sides-next, sides-few}
-use Rattle.tables.specs.Tables.{spanOf, covers, Limits, Valid, areaOf, cellItems, itemsOf, startOf}
+use Rattle.tables.specs.Tables.{spanOf, covers, Limits, Valid, areaOf, cellItems, itemsOf, cellStart}
 use Rattle.tables.proofs.All.{item-count}
 use Rattle.tables.proofs.Cells.{valid-box}
 use Rattle.site.specs.Tables.{boxOf}
@@ -77,8 +77,8 @@ module _ (p q : ℕ → Range) (n cols : ℕ) (same : (k : ℕ) → k < n → p 
   pub items-ext : (cells : ℕ) → itemsOf p n cols cells ≡ itemsOf q n cols cells
   items-ext cells = joined-ext (cellItems p n cols) (cellItems q n cols) cells (λ c h. cell-ext c)
 
-  pub starts-ext : (m : ℕ) → listed (startOf p n cols) m ≡ listed (startOf q n cols) m
-  starts-ext m = listed-ext (startOf p n cols) (startOf q n cols) m (λ c h. sumTo-ext (λ k. length (cellItems p n cols k)) (λ k. length (cellItems q n cols k)) c (λ k l. ap length (cell-ext k)))
+  pub starts-ext : (m : ℕ) → listed (cellStart p n cols) m ≡ listed (cellStart q n cols) m
+  starts-ext m = listed-ext (cellStart p n cols) (cellStart q n cols) m (λ c h. sumTo-ext (λ k. length (cellItems p n cols k)) (λ k. length (cellItems q n cols k)) c (λ k l. ap length (cell-ext k)))
 
 -- ---- a number of a block
 module _ {A : Type 0} where

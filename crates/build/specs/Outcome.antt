@@ -12,7 +12,7 @@ use Rattle.num.specs.Ops.{zeroF}
 use Rattle.grid.specs.declared.Grid.{Grid}
 use Rattle.grid.specs.declared.Range.{Range}
 use Rattle.grid.specs.Range.{rangeOf}
-use Rattle.tables.specs.Tables.{Limits, itemsOf, startOf}
+use Rattle.tables.specs.Tables.{Limits, itemsOf, cellStart}
 use Rattle.site.specs.declared.Site.{Site}
 use Rattle.site.specs.Domain.{loadOf}
 use Rattle.site.specs.Tables.{Tables, tables, boxOf}
@@ -57,7 +57,7 @@ tablesOf g given lens lent =
     (padded zeroF (length (lent .boxes)) (boxesTable given lens))
     (padded 0 (length (lent .polygons)) (polygonsTable lens))
     (padded 0 (length (lent .owners)) (ownersTable lens))
-    (padded 0 (length (lent .starts)) (listed (startOf (spanIn g given lens) (length lens) (g .cols)) (g .cols * g .rows + 1)))
+    (padded 0 (length (lent .starts)) (listed (cellStart (spanIn g given lens) (length lens) (g .cols)) (g .cols * g .rows + 1)))
     (padded 0 (length (lent .items)) (itemsOf (spanIn g given lens) (length lens) (g .cols) (g .cols * g .rows)))
 
 -- ---- the outcome: what is answered, and what is left in the tables

@@ -1,5 +1,5 @@
 -- When building refuses: the tests of document 01's "Refusal numbers" for a site's building, one for each number, and what the later steps may take for
--- granted once the first two have passed. Definitions only.
+-- granted once the first two have passed. specs/Checks.antt has them as facts. Definitions only.
 use mathlib.Core.Path.{_≡_}
 use mathlib.Core.Bool.{Bool, _&&_, _||_}
 use mathlib.Core.List.{List}

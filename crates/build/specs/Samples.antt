@@ -3,7 +3,7 @@ use mathlib.Core.Path.{_≡_, refl}
 use mathlib.Core.List.{List, [], _∷_, map}
 use Prim.Native.Nat.{ℕ}
 use lib.ListN.{replicate}
-use lib.Ieee.{binary64, ofInt, ofBits, toBits, add, sub, mul, div, neg, le, lt, isNan, toUnsigned}
+use lib.Ieee.{ofInt, ofBits, add, sub, mul, div, neg, le, lt, isNan, toUnsigned}
 use Rattle.num.specs.Num.{floorOf, minOf, maxOf, clampOf}
 use Rattle.num.specs.Root.{sqrtOf}
 use Rattle.num.specs.Ops.{zeroF}
@@ -16,21 +16,15 @@ use Rattle.extent.specs.Boxes.{polygonBoxOf}
 use Rattle.extent.specs.Extent.{boundsOf, sideOf, sidesOf, cellFrom, cellSizeOf, colsOf, rowsOf}
 use Rattle.site.specs.Domain.{loadOf}
 use Rattle.site.specs.Tables.{tables}
-use Rattle.build.specs.declared.Made.{Made}
 use Rattle.build.specs.Stored.{givenAt, isReversed, orderedAt, storedAt, storedOf, storedBox, storedBoxes, gridBy, boundsIn, cellIn, gridOf, spanIn}
 use Rattle.build.specs.Refusals.{tooMany, addsUp, numbersIn, allInside, itemCount, hasRoom}
 use Rattle.build.specs.Outcome.{siteOf, planBy, planOf, outcomeBy, outcome}
-use Rattle.build.specs.declared.Made.the-variants as made
+use Rattle.build.specs.Numbers.{madeStatus}
 
--- an answer as numbers: a refusal's number; or 0, the cell (as bits), columns, rows, and the counts of polygons, points and items
-abbrev pub numbersOf : Made → List ℕ
-numbersOf (made.Refused number) = number ∷ []
-numbersOf (made.Site s) = 0 ∷ toBits binary64 (s .grid .cell) ∷ s .grid .cols ∷ s .grid .rows ∷ s .polygons ∷ s .points ∷ s .items ∷ []
-
--- what building answers of a site whose starts have room for so many
-unfoldable pub answered : ℕ → ℕ → List ℕ → List ℕ → ℕ → List ℕ
+-- the status of building a site whose starts have room for so many
+unfoldable pub answered : ℕ → ℕ → List ℕ → List ℕ → ℕ → ℕ
 answered w h points lens starts =
-    numbersOf (outcome (countF w) (countF h) (map countF points) lens (tables (replicate 8 zeroF) (replicate 4 zeroF) (replicate 2 0) (replicate 4 0) (replicate starts 0) (replicate 4 0)) .answer)
+    madeStatus (outcome (countF w) (countF h) (map countF points) lens (tables (replicate 8 zeroF) (replicate 4 zeroF) (replicate 2 0) (replicate 4 0) (replicate starts 0) (replicate 4 0)) .answer)
 
 -- document 01's site A has 36 cells: with room for one start fewer than it takes, too wide, with a coordinate too large, its lengths wrong; and too many polygons
 pub answers :
@@ -40,11 +34,6 @@ pub answers :
     ∷ answered 10 10 (2 ∷ 2 ∷ 4 ∷ 2 ∷ 4 ∷ 4 ∷ 2 ∷ 4 ∷ []) (3 ∷ []) 37
     ∷ answered 10 10 [] (replicate 4097 0) 37
     ∷ []
-    ≡ (5 ∷ [])
-    ∷ (4 ∷ [])
-    ∷ (1 ∷ [])
-    ∷ (3 ∷ [])
-    ∷ (2 ∷ [])
-    ∷ []
-unfolding answered outcome outcomeBy planOf planBy siteOf tooMany addsUp allInside numbersIn itemCount hasRoom inDomain inSize gridOf gridBy boundsIn cellIn spanIn storedBoxes storedBox storedOf storedAt orderedAt isReversed givenAt signedAreaOf areaUpTo crossOf loadOf polygonBoxOf fromPointsOf boxUpTo includeOf unionOf isEmptyOf widthOf heightOf minOf maxOf clampOf floorOf sqrtOf columnsOf cellAt cellIndex rangeBy rangeOf boundsOf sideOf sidesOf cellFrom cellSizeOf colsOf rowsOf ofInt ofBits toBits add sub mul div neg le lt isNan toUnsigned
+    ≡ 5 ∷ 4 ∷ 1 ∷ 3 ∷ 2 ∷ []
+unfolding answered outcome outcomeBy planOf planBy siteOf tooMany addsUp allInside numbersIn itemCount hasRoom inDomain inSize gridOf gridBy boundsIn cellIn spanIn storedBoxes storedBox storedOf storedAt orderedAt isReversed givenAt signedAreaOf areaUpTo crossOf loadOf polygonBoxOf fromPointsOf boxUpTo includeOf unionOf isEmptyOf widthOf heightOf minOf maxOf clampOf floorOf sqrtOf columnsOf cellAt cellIndex rangeBy rangeOf boundsOf sideOf sidesOf cellFrom cellSizeOf colsOf rowsOf ofInt ofBits add sub mul div neg le lt isNan toUnsigned
 answers = refl

@@ -1,4 +1,4 @@
--- What a site stores of the polygons given: their points as they are stored, and the four tables made of them (`Scene::new` of `scene.rs`, lines 103 to 150;
+-- What a site stores of the polygons given: their points as they are stored, and the four tables made of them (`Scene::new` of `scene.rs`, lines 103 to 155;
 -- document 01, "Site and grid"). The points are given as one list of numbers, x and y by turns, polygon after polygon, and beside it the list of the
 -- polygons' lengths. Definitions only.
 use mathlib.Core.Bool.{Bool, cond}

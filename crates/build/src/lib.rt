@@ -1,7 +1,7 @@
-// Building a site into lent tables: `Scene::new` of the Rust's `scene.rs` (lines 103 to 150) with the refusals of document 01. All of it is
+// Building a site into lent tables: `Scene::new` of the Rust's `scene.rs` (lines 103 to 155) with the refusals of document 01. All of it is
 // decided before the first write (`decide`), so that a refusal leaves every table as it was; then the tables are written, one after the other.
-// Meanings: specs/Stored.antt (what is stored), specs/Refusals.antt (when it refuses), specs/Outcome.antt (answer and tables).
-// That a site so made is sound is proofs/BuiltSound.antt.
+// Meanings: specs/Stored.antt (what is stored), specs/Refusals.antt (when it refuses), specs/Outcome.antt (answer and tables), specs/Numbers.antt (the answer as
+// numbers). That a site so made is sound is proofs/BuiltSound.antt; that it refuses exactly when document 01 says is proofs/RefusedWhen.antt.
 use extent::Sides;
 use geom::Aabb;
 use geom::Vec2;
@@ -18,7 +18,7 @@ ghost use Rattle.geom.specs.Box.{cornerOf, fromPointsOf};
 ghost use Rattle.geom.specs.Ring.{signedAreaOf};
 ghost use Rattle.extent.specs.Boxes.{polygonBoxOf};
 ghost use Rattle.extent.specs.Extent.{boundsOf, sidesOf};
-ghost use Rattle.tables.specs.Tables.{Limits, itemsOf, startOf};
+ghost use Rattle.tables.specs.Tables.{Limits, itemsOf, cellStart};
 ghost use Rattle.site.specs.Domain.{loadPointOf};
 ghost use Rattle.site.specs.Tables.{tables, pointAt, boxOf};
 ghost use Rattle.build.specs.Stored.{givenAt, isReversed, orderedAt, storedAt, storedBoxes, pointsOf, boxNumbers, polygonsTable, ownersTable, firstIn, gridOf};
@@ -446,7 +446,7 @@ fn index(
 )
     requires { ⌜ Indexable g (now points) (now polygons) n (length (now boxes)) (length (now starts)) (length (now items)) ⌝ }
     ensures { λ _. ⌜ now (boxes .exit) ≡ padded zeroF (length (now (boxes .entry))) (joined (λ k. boxNumbers (boxOf (now (points .entry)) (now (polygons .entry)) k)) n) ⌝ }
-    ensures { λ _. ⌜ now (starts .exit) ≡ padded 0 (length (now (starts .entry))) (listed (startOf (spanAt g (now (points .entry)) (now (polygons .entry))) n (g .cols)) (g .cols * g .rows + 1)) ⌝ }
+    ensures { λ _. ⌜ now (starts .exit) ≡ padded 0 (length (now (starts .entry))) (listed (cellStart (spanAt g (now (points .entry)) (now (polygons .entry))) n (g .cols)) (g .cols * g .rows + 1)) ⌝ }
     ensures { λ _. ⌜ now (items .exit) ≡ padded 0 (length (now (items .entry))) (itemsOf (spanAt g (now (points .entry)) (now (polygons .entry))) n (g .cols) (g .cols * g .rows)) ⌝ }
 {
     write_boxes(&mut *boxes, points, polygons, n);

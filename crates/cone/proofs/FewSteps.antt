@@ -1,10 +1,12 @@
--- An arc takes few steps: the opening angle is 7 at most and a step a 1,024th at least, or one of them is NaN and the quotient with it.
--- Assumes nothing.
+-- An arc takes few steps, and an outline has few points: the opening angle is 7 at most and a step a 1,024th at least, or one of them is NaN and the quotient
+-- with it. Assumes nothing.
 use mathlib.Core.Path.{_≡_, refl, sym, subst}
 use mathlib.Core.Logic.{_⊎_, inl, inr, ⊎-elim}
 use mathlib.Core.Bool.{Bool, true, false, not, cond}
-use Prim.Native.Nat.{_≤_, zero-le}
+use mathlib.Core.List.{_∷_}
+use Prim.Native.Nat.{ℕ, _+_, _≤_, zero-le}
 use native.Mathlib.Omega.{arith}
+use lib.ListN.{length}
 use lib.IntN.{pos, negsuc}
 use lib.Dec.{T, leb→le}
 use lib.Ieee.{Float, nan, inf, fin, le, div, isNan, ofBits, toUnsigned}
@@ -14,10 +16,11 @@ use Rattle.num.specs.Pages.{clamp-nan}
 use Rattle.angle.specs.Angles.{acosOf, kPi2}
 use Rattle.geom.specs.Constants.{tau, nano, two}
 use Rattle.bounds.specs.Within.{Within, WithinOrNan}
+use Rattle.lists.proofs.Joined.{length-listed}
 use Rattle.num.proofs.FloatOrder.{trans, clamp-between}
 use Rattle.bounds.proofs.Within.{held, tests-within, or-nan, div-share, ceil-within, cast-within}
 use Rattle.cone.specs.declared.ViewCone.{ViewCone}
-use Rattle.cone.specs.Cone.{milli, isFullOf, fovClampedOf, fovOf, reachOf, arcStepOf, stepsOf}
+use Rattle.cone.specs.Cone.{milli, isFullOf, fovClampedOf, fovOf, viewOf, reachOf, arcStepOf, stepsOf, arcPointOf, arcOf, outlineOf}
 
 -- ---- the opening angle
 
@@ -134,3 +137,15 @@ few c tolerance =
 pub few-steps : (c : ViewCone) (tolerance : Float) → stepsOf c tolerance ≤ 7168
 unfolding stepsOf
 few-steps c tolerance = omega (arith, few c tolerance)
+
+-- a circle has a point for each step, a sector two more
+pub few-points : (c : ViewCone) (tolerance : Float) → length (outlineOf c tolerance) ≤ 7170
+unfolding outlineOf
+few-points c tolerance = go (isFullOf c)
+  where
+    n : ℕ
+    n = stepsOf c tolerance
+
+    go : (b : Bool) → length (cond b (arcOf (viewOf c) (reachOf c) n n) (c .origin ∷ arcOf (viewOf c) (reachOf c) n (n + 1))) ≤ 7170
+    go true = omega (arith, length-listed (arcPointOf (viewOf c) (reachOf c) n) n, few-steps c tolerance)
+    go false = omega (arith, length-listed (arcPointOf (viewOf c) (reachOf c) n) (n + 1), few-steps c tolerance)

@@ -1,3 +1,5 @@
 -- Laws of `cone`.
 pub mod FewSteps
 pub mod Arcs
+pub mod Outlining
+pub mod OutlineRefusals

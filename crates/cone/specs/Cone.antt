@@ -1,4 +1,4 @@
--- The view cone: `visibility.rs`, lines 42 to 138 (`ViewCone`), 247 to 250 and 265 (what `compute_visibility` takes from it), and 724 to 732
+-- The view cone: `visibility.rs`, lines 41 to 137 (`ViewCone`), 248 to 251 and 265 (what `compute_visibility` takes from it), and 724 to 732
 -- (`arc_step`). `tau`, `nano` and `two` are those of the crate `geom`, `kPi` and `kPi2` (half of pi) those of the crate `angle`.
 -- `minOf`, `maxOf` and `clampOf` are Rust's. Definitions only, and two constants checked.
 use mathlib.Core.Path.{_≡_, refl}

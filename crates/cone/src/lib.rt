@@ -1,6 +1,8 @@
-// What a viewer can see at most: a circle, or a sector of it. `ViewCone` of `visibility.rs` (lines 42 to 138) and its `arc_step` (lines 724 to 732),
-// their names and order kept, and the numbers that an outline goes by (`compute_visibility`, lines 247 to 250 and 265).
-// Meanings: specs/Cone.antt. One rounding for each operation, in the Rust's order. Nothing is refused here.
+// What a viewer can see at most: a circle, or a sector of it. `ViewCone` of `visibility.rs` (lines 41 to 137) and its `arc_step` (lines 724 to 732),
+// their names and order kept, and the numbers that an outline goes by (`compute_visibility`, lines 248 to 251 and 265).
+// One rounding for each operation, in the Rust's order. `outline` is an entry point: it requires nothing, tests that the cone is in the domain (1) and that its
+// list is long enough (8), and loads what it is given, as document 01's rules for questions have it. All else refuses nothing.
+// Meanings: specs/Cone.antt (the cone, its box and its points), specs/Domain.antt (the domain and loading), specs/Outline.antt (the outcome of `outline`).
 use geom::Aabb;
 use geom::Vec2;
 ghost use mathlib.Core.Path.{_≡_};
@@ -8,6 +10,8 @@ ghost use mathlib.Core.List.{[], _∷_};
 ghost use Prim.Native.Nat.{_+_, _*_, _<_};
 ghost use lib.Seq.{sets};
 ghost use Rattle.cone.specs.Cone.{coneOf, fullOf, isFullOf, fovClampedOf, startAngleOf, fovOf, viewOf, reachOf, rimOf, withAxis, sectorBoxOf, aabbOf, arcStepOf, stepsOf, arcPointOf, arcOf, numbersOf, Drawn};
+ghost use Rattle.cone.specs.Domain.{coneInDomain, loadConeOf};
+ghost use Rattle.cone.specs.Outline.{outcome, Promise};
 
 const TAU: f64 = 6.283185307179586;
 
@@ -32,6 +36,12 @@ pub struct View {
     pub full: bool,
     pub fov: f64,
     pub start: f64,
+}
+
+// What `outline` answers: how many points the list holds, or the number of the refusal.
+pub enum Outlined {
+    Points(usize),
+    Refused(u32),
 }
 
 impl ViewCone {
@@ -94,9 +104,52 @@ impl ViewCone {
         sector_box(view_of(self), r)
     }
 
-    // The outline of the cone itself, as if nothing stood in it: a circle, or the origin and an arc. Answers how many points it has, and
-    // writes those that there is room for.
-    pub fn outline(self, tolerance: f64, out: &mut [f64]) -> usize
+    // Is the cone in the domain? A range may be NaN, a direction may not.
+    pub fn in_domain(self) -> bool
+        ensures { λ r. ⌜ r ≡ coneInDomain self ⌝ }
+    {
+        let o = self.origin;
+        site::point_in_domain(o)
+            & !(self.range > 1000000.0)
+            & (self.direction >= -100.0)
+            & (self.direction <= 100.0)
+            & !num::is_nan(self.fov)
+    }
+
+    // The cone with plus zero for minus zero.
+    pub fn loaded(self) -> ViewCone
+        ensures { λ r. ⌜ r ≡ loadConeOf self ⌝ }
+    {
+        let o = self.origin;
+        ViewCone {
+            origin: site::load_point(o),
+            range: site::load(self.range),
+            direction: site::load(self.direction),
+            fov: site::load(self.fov),
+        }
+    }
+
+    // The outline of the cone itself, as if nothing stood in it: a circle, or the origin and an arc, as x and y by turns in front of a lent list, zeros behind it.
+    // 1: the cone is outside the domain, and nothing is written. 8: the list is too short, and it is all zero.
+    pub fn outline(self, tolerance: f64, out: &mut [f64]) -> Outlined
+        ensures { λ a. ⌜ Promise self tolerance (now (out .entry)) (outcome a (now (out .exit))) ⌝ }
+    {
+        if !self.in_domain() {
+            return Outlined::Refused(1);
+        }
+        let n = self.loaded().draw(site::load(tolerance), &mut *out);
+        let room = out.len();
+        let end = 2 * n;
+        if room < end {
+            lists::clear64(out);
+            return Outlined::Refused(8);
+        }
+        lists::clear_from64(out, end);
+        Outlined::Points(n)
+    }
+
+    // The same without the tests, of a cone and a tolerance as they are: answers how many points there are, and writes those that there is room for.
+    pub fn draw(self, tolerance: f64, out: &mut [f64]) -> usize
         ensures { λ n. ⌜ Drawn self tolerance (now (out .entry)) (now (out .exit)) n ⌝ }
     {
         let r = reach(self);

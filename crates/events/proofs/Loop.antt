@@ -13,7 +13,7 @@ use Rattle.room.specs.declared.Rooms.{Rooms}
 use Rattle.room.specs.declared.Event.{Event}
 use Rattle.room.specs.Layout.{turnsW, cornersW, Fit}
 use Rattle.room.specs.Records.{eventAt}
-use Rattle.events.specs.Spots.{isNear, isAside, keptOf, gathered, cornersOf}
+use Rattle.events.specs.Spots.{isNear, isAside, keptOf, gathered, asideCount}
 use Rattle.events.specs.Held.{turnAt, openOf, joinOf, Closing, Closed, Frame, Gathered, Turns, Ends, Done}
 use Rattle.events.specs.declared.Open.{Open}
 use Rattle.events.specs.declared.Gathering.{Gathering}
@@ -92,7 +92,7 @@ module _ (k : Rooms) (f₀ : List Float) (w₀ : List ℕ) (m : ℕ) (tu : Turns
               most = omega arith;
             }
 
-        pub loop-full : b ≡ true → k .corners ≤ g .corners → k .corners < cornersOf (gathered (listed (turnAt k f₀ w₀) m))
+        pub loop-full : b ≡ true → k .corners ≤ g .corners → k .corners < asideCount (gathered (listed (turnAt k f₀ w₀) m))
         loop-full bt hc = too-many k (listed (turnAt k f₀ w₀) m) f w g t (l .state) e here fit-now (sym en ∙ ny) (sym eb ∙ bt) hc
 
 -- ---- after it: the last event is closed, or there was no room

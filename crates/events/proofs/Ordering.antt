@@ -26,7 +26,7 @@ use Rattle.sorts.specs.Sort.{sort}
 use Rattle.sorts.specs.By.{keyOrder}
 use Rattle.sorts.specs.Fronts.{Ordered}
 use Rattle.sorts.proofs.Keyed.{read-order, length-order, order-below}
-use Rattle.events.specs.Spots.{byAngle, gathered, spotsOf, cornersOf}
+use Rattle.events.specs.Spots.{byAngle, gathered, spotsOf, asideCount}
 use Rattle.events.specs.Held.{turnAt, Frame, Turns, EndsBelow, Done, Merges}
 use Rattle.events.specs.declared.Merging.{Merging}
 
@@ -79,10 +79,10 @@ module _ (k : Rooms) (f : List Float) (w w1 : List ℕ) (m : ℕ) (fit : Fit k (
       let n : length (eventsIn k f w m) ≡ m = length-listed (eventAt k f w) m in
       let c : gathered (listed (turnAt k f w1) m) ≡ gathered (sort byAngle (eventsIn k f w m)) = ap gathered e in
       record {
-        over-is = d .over-is ∙ ap (λ q. ltb (k .corners) (cornersOf q)) c ∙ ap (λ (b : Bool). b || ltb (k .corners) (cornersOf (gathered (sort byAngle (eventsIn k f w m))))) (sym (le-ltb (k .events) (length (eventsIn k f w m)) (omega arith)));
+        over-is = d .over-is ∙ ap (λ q. ltb (k .corners) (asideCount q)) c ∙ ap (λ (b : Bool). b || ltb (k .corners) (asideCount (gathered (sort byAngle (eventsIn k f w m))))) (sym (le-ltb (k .events) (length (eventsIn k f w m)) (omega arith)));
         unmerged-is = d .unmerged-is ∙ length-listed (turnAt k f w1) m ∙ sym n;
         events-are = λ q. d .events-are q ∙ ap length c;
-        corners-are = λ q. d .corners-are q ∙ ap cornersOf c;
+        corners-are = λ q. d .corners-are q ∙ ap asideCount c;
         spots-are = λ q. d .spots-are q ∙ c;
         ends-are = d .ends-are;
       }

@@ -21,7 +21,7 @@ use Rattle.room.specs.declared.Rooms.{Rooms}
 use Rattle.room.specs.declared.Event.{Event}
 use Rattle.room.specs.Layout.{cornersW, Fit}
 use Rattle.sorts.proofs.Merging.{length-sort}
-use Rattle.events.specs.Spots.{Spot, opened, isNear, isAside, met, closed, gather, gathered, cornersOf}
+use Rattle.events.specs.Spots.{Spot, opened, isNear, isAside, met, closed, gather, gathered, asideCount}
 use Rattle.events.specs.Held.{endAt, spotAt, spotsIn, spotNow, openOf, joinOf, Stands, Closed, Gathered, Done}
 use Rattle.events.specs.declared.Open.{Open}
 use Rattle.events.specs.declared.Merging.{Merging}
@@ -29,12 +29,12 @@ use Rattle.events.proofs.Reading.{ends-stay, spots-stay}
 
 -- ---- counting corners
 
-pub corners-append : (xs ys : List Spot) → cornersOf (xs ++ ys) ≡ cornersOf xs + cornersOf ys
+pub corners-append : (xs ys : List Spot) → asideCount (xs ++ ys) ≡ asideCount xs + asideCount ys
 corners-append [] ys = omega arith
 corners-append (x ∷ xs) ys = omega (arith, corners-append xs ys)
 
 -- the open event's corners are not lost
-corners-open : (s : Spot) (es : List Event) → length (s .extras) ≤ cornersOf (gather s es)
+corners-open : (s : Spot) (es : List Event) → length (s .extras) ≤ asideCount (gather s es)
 corners-open s [] = omega (arith, length-sort ltb (s .extras))
 corners-open s (e ∷ es) = by (isNear (s .angle) (e .angle)) (corners-open (met s e) es)
   where
@@ -42,7 +42,7 @@ corners-open s (e ∷ es) = by (isNear (s .angle) (e .angle)) (corners-open (met
     more true q = rw q (simp length-append (omega arith))
     more false q = rw q (omega arith)
 
-    by : (n : Bool) → length (met s e .extras) ≤ cornersOf (gather (met s e) es) → length (s .extras) ≤ cornersOf (cond n (gather (met s e) es) (closed s ∷ gather (opened e) es))
+    by : (n : Bool) → length (met s e .extras) ≤ asideCount (gather (met s e) es) → length (s .extras) ≤ asideCount (cond n (gather (met s e) es) (closed s ∷ gather (opened e) es))
     by true h = omega (arith, more (isAside (s .vertex) (e .vertex)) refl)
     by false h = omega (arith, length-sort ltb (s .extras))
 
@@ -117,7 +117,7 @@ module _ (k : Rooms) (all : List Event) (f : List Float) (w : List ℕ) (g : Ope
           last = en (g .spots) (omega arith) ∙ st .last;
         };
         some = omega (arith, s .some);
-        sum = ap cornersOf sp ∙ s .sum;
+        sum = ap asideCount sp ∙ s .sum;
         whole =
             ap (λ (l : List Spot). l ++ gather (spotNow k w' (joinOf g e (g .corners + 1))) (drop (t + 1) all)) sp
             ∙ ap (λ (l : Spot). spotsIn k f w (g .spots) ++ gather l (drop (t + 1) all)) same
@@ -136,16 +136,16 @@ module _ (k : Rooms) (all : List Event) (f : List Float) (w : List ℕ) (g : Ope
       same = rw (b, grown)
 
   -- there is no room for it
-  pub too-many : Fit k (length f) (length w) → isNear (g .angle) (e .angle) ≡ true → isAside (g .vertex) (e .vertex) ≡ true → k .corners ≤ g .corners → k .corners < cornersOf (gathered all)
+  pub too-many : Fit k (length f) (length w) → isNear (g .angle) (e .angle) ≡ true → isAside (g .vertex) (e .vertex) ≡ true → k .corners ≤ g .corners → k .corners < asideCount (gathered all)
   too-many fit n b h =
       let a = cornersW k + g .first in
       let z = cornersW k + g .corners in
       let st : Stands k f w g = s .stands in
       let l : length (part a z w) ≡ z - a = length-take-le (z - a) (drop a w) (simp length-drop (omega (arith, fit .words-fit, st .room))) in
       let m : length (met (spotNow k w g) e .extras) ≡ suc (length (part a z w)) = rw b (simp length-append (omega arith)) in
-      let c : cornersOf (gathered all) ≡ cornersOf (spotsIn k f w (g .spots)) + cornersOf (gather (met (spotNow k w g) e) (drop (t + 1) all)) =
-      ap cornersOf (sym (s .whole)) ∙ corners-append (spotsIn k f w (g .spots)) (gather (spotNow k w g) (drop t all))
-      ∙ ap (λ (q : List Spot). cornersOf (spotsIn k f w (g .spots)) + cornersOf q) (ap (gather (spotNow k w g)) d ∙ gather-near (spotNow k w g) e (drop (t + 1) all) n) in
+      let c : asideCount (gathered all) ≡ asideCount (spotsIn k f w (g .spots)) + asideCount (gather (met (spotNow k w g) e) (drop (t + 1) all)) =
+      ap asideCount (sym (s .whole)) ∙ corners-append (spotsIn k f w (g .spots)) (gather (spotNow k w g) (drop t all))
+      ∙ ap (λ (q : List Spot). asideCount (spotsIn k f w (g .spots)) + asideCount q) (ap (gather (spotNow k w g)) d ∙ gather-near (spotNow k w g) e (drop (t + 1) all) n) in
       omega (arith, l, m, c, s .sum, st .within, st .room, corners-open (met (spotNow k w g) e) (drop (t + 1) all))
 
 -- ---- an event is closed
@@ -157,12 +157,12 @@ module _ (k : Rooms) (f f' : List Float) (w w' : List ℕ) (g : Open) (fit : Fit
       ∙ ap (λ (q : Spot). spotsIn k f' w' (g .spots) ++ (q ∷ [])) (c .spot)
       ∙ ap (λ (q : List Spot). q ++ (closed (spotNow k w g) ∷ [])) (listed-ext (spotAt k f' w') (spotAt k f w) (g .spots) (c .before))
 
-  pub corners-more : cornersOf (spotsIn k f w (g .spots)) ≡ g .first → cornersOf (spotsIn k f' w' (g .spots + 1)) ≡ g .corners
+  pub corners-more : asideCount (spotsIn k f w (g .spots)) ≡ g .first → asideCount (spotsIn k f' w' (g .spots + 1)) ≡ g .corners
   corners-more h =
       let a = cornersW k + g .first in
       let z = cornersW k + g .corners in
       let l : length (part a z w) ≡ z - a = length-take-le (z - a) (drop a w) (simp length-drop (omega (arith, fit .words-fit, st .room))) in
-      ap cornersOf one-more ∙ corners-append (spotsIn k f w (g .spots)) (closed (spotNow k w g) ∷ []) ∙ omega (arith, h, l, length-sort ltb (part a z w), st .within)
+      ap asideCount one-more ∙ corners-append (spotsIn k f w (g .spots)) (closed (spotNow k w g) ∷ []) ∙ omega (arith, h, l, length-sort ltb (part a z w), st .within)
 
   last-end : endAt k f' w' (g .spots + 1) ≡ g .corners
   last-end = ap (endAt k f' w') (add-one (g .spots)) ∙ c .last
@@ -198,9 +198,9 @@ module _ (k : Rooms) (f f' : List Float) (w w' : List ℕ) (g : Open) (fit : Fit
   all-closed all s r eo eu ee ec =
       let p : spotsIn k f' w' (g .spots + 1) ≡ gathered all =
       one-more ∙ ap (λ (l : List Event). spotsIn k f w (g .spots) ++ gather (spotNow k w g) l) (sym (drop-length all)) ∙ s .whole in
-      let q : cornersOf (gathered all) ≡ g .corners = ap cornersOf (sym p) ∙ corners-more (s .sum) in
+      let q : asideCount (gathered all) ≡ g .corners = ap asideCount (sym p) ∙ corners-more (s .sum) in
       record {
-        over-is = eo ∙ sym (le-ltb (k .corners) (cornersOf (gathered all)) (omega (arith, q, st .room)));
+        over-is = eo ∙ sym (le-ltb (k .corners) (asideCount (gathered all)) (omega (arith, q, st .room)));
         unmerged-is = eu;
         events-are = λ _. ee ∙ sym (many (g .spots + 1)) ∙ ap length p;
         corners-are = λ _. ec ∙ sym q;
@@ -212,9 +212,9 @@ module _ (k : Rooms) (f f' : List Float) (w w' : List ℕ) (g : Open) (fit : Fit
       many n = length-listed (spotAt k f' w') n
 
 -- more corners than there is room for
-pub over-done : (k : Rooms) (all : List Event) (f : List Float) (w : List ℕ) (r : Merging) → k .corners < cornersOf (gathered all) → r .over ≡ true → r .unmerged ≡ length all → Done k all f w r
+pub over-done : (k : Rooms) (all : List Event) (f : List Float) (w : List ℕ) (r : Merging) → k .corners < asideCount (gathered all) → r .over ≡ true → r .unmerged ≡ length all → Done k all f w r
 over-done k all f w r h eo eu = record {
-  over-is = eo ∙ sym (lt-ltb (k .corners) (cornersOf (gathered all)) h);
+  over-is = eo ∙ sym (lt-ltb (k .corners) (asideCount (gathered all)) h);
   unmerged-is = eu;
   events-are = λ q. absurd (true≢false (sym eo ∙ q));
   corners-are = λ q. absurd (true≢false (sym eo ∙ q));

@@ -17,7 +17,7 @@ use Rattle.lists.proofs.Only.{only-trans, only-wider, stored-more}
 use Rattle.room.specs.declared.Rooms.{Rooms}
 use Rattle.room.specs.Layout.{eventsF, mergedF, samplesF, eventsW, turnsW, startsW}
 use Rattle.room.specs.Records.{eventAt, eventsIn}
-use Rattle.events.specs.Spots.{sideAt, sidesOf, spotsOf, cornersOf}
+use Rattle.events.specs.Spots.{sideAt, sidesOf, spotsOf, asideCount}
 use Rattle.events.specs.Held.{Merges}
 use Rattle.events.specs.declared.Merging.{Merging}
 
@@ -41,7 +41,7 @@ module _ (k : Rooms) (f f1 f' : List Float) (w w1 w' : List ℕ) where
   no-sides n r full fov e h eo eu =
       let l : length (eventsIn k f w n ++ (sideAt zeroF ∷ sideAt fov ∷ [])) ≡ n + 2 = length-append (eventsIn k f w n) (sideAt zeroF ∷ sideAt fov ∷ []) ∙ omega (arith, length-listed (eventAt k f w) n) in
       rw e (record {
-        over-is = eo ∙ sym (ap (λ (b : Bool). b || ltb (k .corners) (cornersOf (spotsOf (eventsIn k f w n ++ (sideAt zeroF ∷ sideAt fov ∷ []))))) (lt-ltb (k .events) (length (eventsIn k f w n ++ (sideAt zeroF ∷ sideAt fov ∷ []))) (omega arith)));
+        over-is = eo ∙ sym (ap (λ (b : Bool). b || ltb (k .corners) (asideCount (spotsOf (eventsIn k f w n ++ (sideAt zeroF ∷ sideAt fov ∷ []))))) (lt-ltb (k .events) (length (eventsIn k f w n ++ (sideAt zeroF ∷ sideAt fov ∷ []))) (omega arith)));
         unmerged-is = eu ∙ sym l;
         events-are = λ q. absurd (true≢false (sym eo ∙ q));
         corners-are = λ q. absurd (true≢false (sym eo ∙ q));

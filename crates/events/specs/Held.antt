@@ -13,7 +13,7 @@ use Rattle.room.specs.declared.Rooms.{Rooms}
 use Rattle.room.specs.declared.Event.{Event}
 use Rattle.room.specs.Layout.{mergedF, samplesF, turnsW, mergedW, cornersW, startsW, Fit}
 use Rattle.room.specs.Records.{eventAt, mergedAt}
-use Rattle.events.specs.Spots.{Spot, closed, gather, gathered, spotsOf, cornersOf, keptOf}
+use Rattle.events.specs.Spots.{Spot, closed, gather, gathered, spotsOf, asideCount, keptOf}
 use Rattle.events.specs.declared.Open.{Open}
 use Rattle.events.specs.declared.Gathering.{Gathering}
 use Rattle.events.specs.declared.Gathering.the-variants.{Still, Full}
@@ -96,7 +96,7 @@ pub record Closed (k : Rooms) (g : Open) (floats : List Float) (words : List ℕ
 pub record Gathered (k : Rooms) (all : List Event) (floats : List Float) (words : List ℕ) (g : Open) (t : ℕ) : Type 0 where
   pub stands : Stands k floats words g
   pub some : g .spots < t
-  pub sum : cornersOf (spotsIn k floats words (g .spots)) ≡ g .first
+  pub sum : asideCount (spotsIn k floats words (g .spots)) ≡ g .first
   pub whole : spotsIn k floats words (g .spots) ++ gather (spotNow k words g) (drop t all) ≡ gathered all
 
 -- m events stand in order, in the room
@@ -109,7 +109,7 @@ pub record Turns (k : Rooms) (m : ℕ) (floats : List Float) (words : List ℕ) 
 -- what the run ends with: an open event and none to come, or more corners than there is room for
 abbrev pub Ends : Rooms → List Event → List Float → List ℕ → Gathering → Type 0
 Ends k all floats words (Still g) = Gathered k all floats words g (length all)
-Ends k all floats words Full = k .corners < cornersOf (gathered all)
+Ends k all floats words Full = k .corners < asideCount (gathered all)
 
 -- the first n merged events have their corners in the corners' own stretch
 abbrev pub EndsBelow : Rooms → List Float → List ℕ → ℕ → Type 0
@@ -117,19 +117,19 @@ EndsBelow k floats words n = (i : ℕ) → i ≤ n → endAt k floats words i �
 
 -- what merging the events in order ends with
 pub record Done (k : Rooms) (all : List Event) (floats : List Float) (words : List ℕ) (r : Merging) : Type 0 where
-  pub over-is : r .over ≡ ltb (k .corners) (cornersOf (gathered all))
+  pub over-is : r .over ≡ ltb (k .corners) (asideCount (gathered all))
   pub unmerged-is : r .unmerged ≡ length all
   pub events-are : r .over ≡ false → r .events ≡ length (gathered all)
-  pub corners-are : r .over ≡ false → r .corners ≡ cornersOf (gathered all)
+  pub corners-are : r .over ≡ false → r .corners ≡ asideCount (gathered all)
   pub spots-are : r .over ≡ false → spotsIn k floats words (r .events) ≡ gathered all
   pub ends-are : r .over ≡ false → EndsBelow k floats words (r .events)
 
 -- ---- WHAT MERGING PROMISES of the unmerged events es: over exactly where they or the corners kept aside pass their entries; otherwise the
 -- counts are the lists' lengths, and the merged events stand in the room
 pub record Merges (k : Rooms) (es : List Event) (floats : List Float) (words : List ℕ) (r : Merging) : Type 0 where
-  pub over-is : r .over ≡ ltb (k .events) (length es) || ltb (k .corners) (cornersOf (spotsOf es))
+  pub over-is : r .over ≡ ltb (k .events) (length es) || ltb (k .corners) (asideCount (spotsOf es))
   pub unmerged-is : r .unmerged ≡ length es
   pub events-are : r .over ≡ false → r .events ≡ length (spotsOf es)
-  pub corners-are : r .over ≡ false → r .corners ≡ cornersOf (spotsOf es)
+  pub corners-are : r .over ≡ false → r .corners ≡ asideCount (spotsOf es)
   pub spots-are : r .over ≡ false → spotsIn k floats words (r .events) ≡ spotsOf es
   pub ends-are : r .over ≡ false → EndsBelow k floats words (r .events)

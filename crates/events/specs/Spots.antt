@@ -1,4 +1,4 @@
--- The events of an outline, in order of angle and merged: `visibility.rs`, lines 324 to 372. Document 01, "Outlines from a post": "Events less
+-- The events of an outline, in order of angle and merged: `visibility.rs`, lines 335 to 371. Document 01, "Outlines from a post": "Events less
 -- than 1e-12 after the kept one merge; other corners are kept aside, by event and then vertex".
 -- The Rust keeps the corners of all events in one list, sorted by event and then vertex; here each event has its own, sorted by vertex. The
 -- Rust's `dedup` after that sort is `dedup` of each (the crate `sorts`). Definitions only, but for the decimal of a constant.
@@ -85,8 +85,8 @@ unfoldable pub spotsOf : List Event → List Spot
 spotsOf es = gathered (sort byAngle es)
 
 -- how many corners are kept aside, repeats and all: "kept-aside corners" of document 01's work lists
-abbrev pub cornersOf : List Spot → ℕ
-cornersOf = sumOver (λ s. length (s .extras))
+abbrev pub asideCount : List Spot → ℕ
+asideCount = sumOver (λ s. length (s .extras))
 
 -- how many are sides
 abbrev pub sideCount : List Spot → ℕ

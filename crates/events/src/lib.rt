@@ -1,4 +1,4 @@
-// The events of an outline merged: `visibility.rs`, lines 324 to 372. The straight sides of a sector join the events, all are put in order of
+// The events of an outline merged: `visibility.rs`, lines 335 to 371. The straight sides of a sector join the events, all are put in order of
 // angle, and those less than 1e-12 after the kept one are merged into it; other corners are kept aside, each event's sorted by vertex.
 // Meanings: specs/Spots.antt (the merged events), specs/Held.antt (what the room holds of them).
 use room::Event;

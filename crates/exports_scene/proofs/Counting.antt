@@ -18,14 +18,14 @@ use Rattle.sight.specs.declared.Whose.{Whose}
 use Rattle.sight.specs.declared.Whose.the-variants.{Id, Nobody}
 use Rattle.sight.specs.Holding.{polygonAtOf}
 use Rattle.sight.specs.Casting.{castRayOf}
-use Rattle.answers.specs.Numbers.{hitOf}
+use Rattle.scene.specs.Numbers.{castHit}
 use Rattle.exports_scene.specs.Many.{isHeld, heldAt, hitAt}
 
 -- one answer more
 sum-next : (f : ℕ → ℕ) (i : ℕ) {n b : ℕ} → n ≡ sumTo f i → b ≡ f i → n + b ≡ sumTo f (i + 1)
 sum-next f i e h = rw (add-one, e, h)
 
-hit-le-one : (h : Cast) → hitOf h ≤ 1
+hit-le-one : (h : Cast) → castHit h ≤ 1
 hit-le-one (cast.Hit t e) = omega arith
 hit-le-one cast.Miss = omega arith
 

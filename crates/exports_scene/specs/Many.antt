@@ -13,7 +13,7 @@ use Rattle.sight.specs.declared.Whose.{Whose}
 use Rattle.sight.specs.declared.Whose.the-variants.{Id, Nobody}
 use Rattle.sight.specs.Holding.{polygonAtOf}
 use Rattle.sight.specs.Casting.{castRayOf}
-use Rattle.answers.specs.Numbers.{hitOf}
+use Rattle.scene.specs.Numbers.{castHit}
 
 -- ---- points: x and y by turns, an odd last number is no point
 -- a polygon was found
@@ -38,7 +38,7 @@ unfoldable pub hitAt : Grid → List Float → List Float → List ℕ → List 
 hitAt g points boxes polygons starts items asked i =
     let o = vec (getD asked (5 * i) nan) (getD asked (5 * i + 1) nan) in
     let d = vec (getD asked (5 * i + 2) nan) (getD asked (5 * i + 3) nan) in
-    hitOf (castRayOf g points boxes polygons starts items o d (getD asked (5 * i + 4) nan) .hit)
+    castHit (castRayOf g points boxes polygons starts items o d (getD asked (5 * i + 4) nan) .hit)
 
 -- how many rays hit
 unfoldable pub hitsOf : Grid → List Float → List Float → List ℕ → List ℕ → List ℕ → List Float → ℕ

@@ -13,7 +13,8 @@ ghost use Rattle.geom.specs.Box.{corners};
 ghost use Rattle.sight.specs.Holding.{polygonAtOf};
 ghost use Rattle.sight.specs.Casting.{castRayOf};
 ghost use Rattle.scene.specs.Answers.{lookFrom};
-ghost use Rattle.answers.specs.Numbers.{siteOf, whoseTwo, lookDistance, lookThree};
+ghost use Rattle.scene.specs.Numbers.{whoseTwo, lookDistance, lookThree};
+ghost use Rattle.answers.specs.Head.{siteOf};
 ghost use Rattle.exports_scene.specs.Many.{heldAt, heldOf, raysIn, hitAt, hitsOf};
 
 // The polygon at a point: 1 and its id, or zeros.

@@ -1,5 +1,5 @@
 // The C interface of sites: building and every question, numbers and slices only. Each function is one call of the library under it and has its promise, in
-// the numbers of crate `answers`: it returns a status, 0 or document 01's number of the refusal, and leaves its values in the last parameters, zeros on
+// the numbers that `grid`, `build` and `scene` give their answers: it returns a status, 0 or document 01's number of the refusal, and leaves its values in the last parameters, zeros on
 // refusal. A site is six floats (width, height, the grid's origin, cell and its inverse), five numbers (columns, rows, polygons, points, items) and the six
 // tables. In C a slice is a pointer and a length, and an array is a pointer.
 pub mod inner;
@@ -19,8 +19,10 @@ ghost use Rattle.build.specs.Outcome.{outcome};
 ghost use Rattle.random.specs.Outcome as drawing;
 ghost use Rattle.scene.specs.Answers.{widthOf, heightOf, boundsOf, dimsOf, polygonOf, polygonVerticesOf, polygonVerticesNumberOf, edgeOf, edgeEndOf, edgeOwnerOf, itemsAtOf, itemsAtNumberOf, polygonAtOf, castRayOf};
 ghost use Rattle.scene.specs.Stamping.{polygonsNearOf, newStampsOf};
-ghost use Rattle.answers.specs.Numbers.{siteOf, extentStatus, extentValue, boundsStatus, boundsFour, dimsStatus, dimsTwo, shapeStatus, shapePlace, shapeFour, segmentStatus, segmentFour, indexStatus, indexValue, countStatus, countValue, foundStatus, foundTwo, lookStatus, lookDistance, lookThree};
-ghost use Rattle.answers.specs.Outcomes.{Lists, Anew, Builds};
+ghost use Rattle.grid.specs.Numbers.{Lists};
+ghost use Rattle.scene.specs.Numbers.{extentStatus, extentValue, boundsStatus, boundsFour, dimsStatus, dimsTwo, shapeStatus, shapePlace, shapeFour, segmentStatus, segmentFour, indexStatus, indexValue, countStatus, countValue, foundStatus, foundTwo, lookStatus, lookDistance, lookThree};
+ghost use Rattle.answers.specs.Head.{siteOf};
+ghost use Rattle.answers.specs.Outcomes.{Anew, Builds};
 ghost use Rattle.exports_scene.specs.Settings.{configOf};
 
 // Are the tables sound? 1 or 0.

@@ -19,7 +19,9 @@ ghost use Rattle.extent.specs.Extent.{boundsOf};
 ghost use Rattle.site.specs.Tables.{firstOf, lenOf, ownerAt, edgeEndOf, edgeOf};
 ghost use Rattle.site.specs.Domain.{loadOf, loadPointOf};
 ghost use Rattle.scene.specs.Answers.{segmentFrom};
-ghost use Rattle.answers.specs.Numbers.{siteOf, fourOf, segmentFour};
+ghost use Rattle.build.specs.Stored.{boxNumbers};
+ghost use Rattle.scene.specs.Numbers.{segmentFour};
+ghost use Rattle.answers.specs.Head.{siteOf};
 
 // How many ids the cell of a point has.
 #[no_mangle]
@@ -129,7 +131,7 @@ pub extern "C" fn bf_inner_polygon(
 ) -> u32
     ensures { λ r. ⌜ r ≡ 0 ⌝ }
     ensures { λ r. ⌜ now (place .exit) ≡ firstOf (now (polygons .entry)) id ∷ lenOf (now (polygons .entry)) id ∷ [] ⌝ }
-    ensures { λ r. ⌜ now (b .exit) ≡ fourOf (boxAt (now (boxes .entry)) id) ⌝ }
+    ensures { λ r. ⌜ now (b .exit) ≡ boxNumbers (boxAt (now (boxes .entry)) id) ⌝ }
 {
     let a = Shape::Polygon {
         first: site::first_of(polygons, id),
@@ -177,7 +179,7 @@ pub extern "C" fn bf_inner_bounds(
     b: &mut [f64; 4],
 ) -> u32
     ensures { λ r. ⌜ r ≡ 0 ⌝ }
-    ensures { λ r. ⌜ now (b .exit) ≡ fourOf (boundsOf (loadOf (siteOf (now (head .entry)) (now (counts .entry)) .width)) (loadOf (siteOf (now (head .entry)) (now (counts .entry)) .height)) (boxesOf (now (boxes .entry)) (siteOf (now (head .entry)) (now (counts .entry)) .polygons))) ⌝ }
+    ensures { λ r. ⌜ now (b .exit) ≡ boxNumbers (boundsOf (loadOf (siteOf (now (head .entry)) (now (counts .entry)) .width)) (loadOf (siteOf (now (head .entry)) (now (counts .entry)) .height)) (boxesOf (now (boxes .entry)) (siteOf (now (head .entry)) (now (counts .entry)) .polygons))) ⌝ }
 {
     let s = answers::site_of(head, counts);
     let count = lists::wide(s.polygons);

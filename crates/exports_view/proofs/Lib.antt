@@ -1,2 +1,2 @@
--- The law behind the C interface of outlines.
+-- The laws behind the C interface of outlines.
 pub mod Drawing

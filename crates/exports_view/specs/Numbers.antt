@@ -1,17 +1,16 @@
--- Cones, entries and answers of an outline as plain numbers (document 01, "Choosing the form by place": "a definition gives this paper's number and values
--- for each case"). Definitions only.
+-- Cones and entries of an outline as plain numbers, and what an outline call does with its answer as numbers. Definitions only.
 use mathlib.Core.Path.{_≡_}
-use mathlib.Core.List.{List, [], _∷_}
+use mathlib.Core.List.{List}
 use Prim.Native.Nat.{ℕ}
 use lib.ListN.{getD}
 use lib.Ieee.{Float, nan}
-use Rattle.lists.specs.Lists.{bit}
 use Rattle.geom.specs.Vec.{vec}
 use Rattle.cone.specs.declared.ViewCone.{ViewCone}
+use Rattle.cone.specs.Outline.{outlineStatus, outlinePoints}
+use Rattle.cone.specs.Outline as own
 use Rattle.room.specs.declared.Rooms.{Rooms}
-use Rattle.visibility.specs.declared.Visibility.{Visibility}
-use Rattle.visibility.specs.declared.Visibility.the-variants.{Seen, Refused}
-use Rattle.visibility.specs.Outcome.{Lent, Outcome}
+use Rattle.visibility.specs.Numbers.{statusOf, nineOf}
+use Rattle.view.specs.Outcome.{Lent, Outcome}
 
 -- the post, range, direction and opening angle
 unfoldable pub coneOf : List Float → ViewCone
@@ -31,18 +30,14 @@ roomsOf n = record {
   seen = getD n 8 0;
 }
 
--- ---- an answer: 0 or the refusal's number, and its nine values, zeros where it is refused
-abbrev pub statusOf : Visibility → ℕ
-statusOf (Seen s) = 0
-statusOf (Refused n) = n
-
-abbrev pub nineOf : Visibility → List ℕ
-nineOf (Seen s) =
-    bit (s .blocked) ∷ bit (s .full) ∷ s .points ∷ s .visible ∷ s .candidates ∷ s .«front_edges» ∷ s .events ∷ s .«rays_cast» ∷ s .refinements ∷ []
-nineOf (Refused n) = 0 ∷ 0 ∷ 0 ∷ 0 ∷ 0 ∷ 0 ∷ 0 ∷ 0 ∷ 0 ∷ []
-
 -- every part of what an outline call does
 pub record Draws (o : Outcome) (status : ℕ) (left : Lent) (answer : List ℕ) : Type 0 where
   pub status-is : status ≡ statusOf (o .answer)
   pub left-is : left ≡ o .left
   pub answer-is : answer ≡ nineOf (o .answer)
+
+-- and of what a call of a cone's own outline does
+pub record Outlines (o : own.Outcome) (status : ℕ) (list : List Float) (number : ℕ) : Type 0 where
+  pub status-is : status ≡ outlineStatus (o .answer)
+  pub list-is : list ≡ o .list
+  pub number-is : number ≡ outlinePoints (o .answer)

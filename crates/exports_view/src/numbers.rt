@@ -1,10 +1,13 @@
 // Cones, entries and answers as plain numbers.
+use cone::Outlined;
 use cone::ViewCone;
 use geom::Vec2;
 use room::Rooms;
-use visibility::Visibility;
+use stages::Visibility;
 ghost use mathlib.Core.Path.{_≡_};
-ghost use Rattle.exports_view.specs.Numbers.{coneOf, roomsOf, statusOf, nineOf};
+ghost use Rattle.cone.specs.Outline.{outlineStatus, outlinePoints};
+ghost use Rattle.visibility.specs.Numbers.{statusOf, nineOf};
+ghost use Rattle.exports_view.specs.Numbers.{coneOf, roomsOf};
 
 // The post's x and y, its range, direction and opening angle.
 pub fn cone_of(c: &[f64; 5]) -> ViewCone
@@ -65,5 +68,24 @@ pub fn put_shown(out: &mut [u64; 9], a: Visibility)
         Visibility::Refused(_) => {
             *out = [0, 0, 0, 0, 0, 0, 0, 0, 0];
         }
+    }
+}
+
+pub fn outline_status(a: Outlined) -> u32
+    ensures { λ r. ⌜ r ≡ outlineStatus a ⌝ }
+{
+    match a {
+        Outlined::Points(_) => 0,
+        Outlined::Refused(n) => n,
+    }
+}
+
+// How many points, 0 on refusal.
+pub fn outline_points(a: Outlined) -> u64
+    ensures { λ r. ⌜ r ≡ outlinePoints a ⌝ }
+{
+    match a {
+        Outlined::Points(n) => n as u64,
+        Outlined::Refused(_) => 0,
     }
 }

@@ -1,9 +1,7 @@
--- One box more: what each turn of the two loops does to the bounds and to the sides. Assumes nothing.
+-- One box more: what it does to the bounds and to the sides. Assumes nothing.
 use mathlib.Core.Path.{_≡_, refl, ap, _∙_}
 use Prim.Native.Nat.{ℕ, _+_, _≤_}
 use native.Mathlib.Omega.{arith}
-use native.Mathlib.Nat.{le-trans, le-of-eq}
-use Rattle.lists.proofs.Joined.{length-listed}
 use native.Mathlib.Numerals.{add-one}
 use mathlib.Core.Bool.{Bool, true, false, not, cond}
 use mathlib.Core.List.{List, [], _∷_, _++_, foldl, foldl-append}
@@ -64,12 +62,6 @@ pub sides-few : (bs : List Aabb) → sidesOf bs .count ≤ length bs
 unfolding sidesOf
 sides-few bs = length-filter-le (λ b. not (isEmptyOf b)) bs
 
--- ---- as the loops have them
+-- ---- as the loop has them
 pub bounds-step : (w h : Float) (table : List Float) (i : ℕ) → joinBoxOf (boundsOf w h (listed (boxAt table) i)) (boxAt table i) ≡ boundsOf w h (listed (boxAt table) (i + 1))
 bounds-step w h table i = rw add-one (bounds-next w h (listed (boxAt table) i) (boxAt table i))
-
-pub sides-step : (table : List Float) (i : ℕ) → addSideOf (sidesOf (listed (boxAt table) i)) (boxAt table i) ≡ sidesOf (listed (boxAt table) (i + 1))
-sides-step table i = rw add-one (sides-next (listed (boxAt table) i) (boxAt table i))
-
-pub sides-most : (table : List Float) (i : ℕ) → sidesOf (listed (boxAt table) i) .count ≤ i
-sides-most table i = le-trans (sides-few (listed (boxAt table) i)) (le-of-eq (length-listed (boxAt table) i))

@@ -1,12 +1,12 @@
-// The extent of a site: a polygon's box, the table of boxes, the bounds and the size of the cells. `Scene::new` and `pick_cell_size` of the
-// Rust's `scene.rs`; document 01, "Site and grid". That the bounds, the cell, columns and rows of a site that building makes are sound is
+// The extent of a site: a polygon's box, the bounds and the size of the cells, each by one box more, as building meets the boxes: `Scene::new` and
+// `pick_cell_size` of the Rust's `scene.rs`; document 01, "Site and grid". That the bounds, the cell, columns and rows of a site that building makes are sound is
 // proofs/SoundHead.antt. Meanings: specs/Boxes.antt, specs/Extent.antt, specs/Sound.antt.
 use geom::Aabb;
 use geom::Vec2;
 ghost use mathlib.Core.Path.{_≡_};
 ghost use Prim.Native.Nat.{_+_, _^_, _<_, min};
 ghost use Rattle.extent.specs.Boxes.{polygonBoxOf, boxCount, boxesOf};
-ghost use Rattle.extent.specs.Extent.{boundsOf, joinBoxOf, sideOf, addSideOf, cellFrom, cellSizeOf};
+ghost use Rattle.extent.specs.Extent.{boundsOf, joinBoxOf, sideOf, addSideOf, cellFrom};
 
 // The box that a polygon's points give: a polygon of fewer than three has the empty one, so that no query ever meets it.
 pub fn polygon_box(points: &[f64]) -> Aabb
@@ -99,18 +99,4 @@ pub fn cell_from(s: Sides, bounds: Aabb) -> f64
     let mean_extent = s.sum / std::num::nearest_u64_to_f64(s.count);
     let min_for_cap = num::sqrt(bounds.width() * bounds.height() / CELLS_CAP);
     num::max(num::max(mean_extent, min_for_cap), 1.0)
-}
-
-// The size of the cells of a site with the first n boxes of the table and these bounds.
-pub fn pick_cell_size(boxes: &[f64], n: usize, bounds: Aabb) -> f64
-    ensures { λ r. ⌜ r ≡ cellSizeOf (boxesOf (now (boxes .entry)) n) bounds ⌝ }
-{
-    let m = count(boxes, n);
-    let mut s = Sides { sum: 0.0, count: 0 };
-    let mut i = 0;
-    while i < m {
-        s = add_side(s, grid::box_at(boxes, i));
-        i += 1;
-    }
-    cell_from(s, bounds)
 }

@@ -1,7 +1,7 @@
 -- Laws of `Added`: nothing added, one thing after another, a front edge or an event written or only counted. Assumes nothing.
 use mathlib.Core.Path.{_≡_, refl, sym, ap, _∙_}
 use mathlib.Core.Logic.{inl, inr}
-use mathlib.Core.Bool.{Bool, true, false, _||_}
+use mathlib.Core.Bool.{Bool, true, false, _||_, or-false, or-assoc}
 use mathlib.Core.List.{List, [], _++_, append-nil, append-assoc}
 use Prim.Native.Nat.{ℕ, _+_, _≤_, _<_}
 use native.Mathlib.Nat.{zero-add, add-zero, add-assoc}
@@ -20,14 +20,6 @@ use Rattle.fan.specs.declared.End.{End}
 use Rattle.fan.specs.Fan.{Fanned, fanned, nothing, both, edgeFan, eventFan, endFan, Added}
 
 -- ---- two answers together
-
-pub or-false : (b : Bool) → (b || false) ≡ b
-or-false true = refl
-or-false false = refl
-
-pub or-assoc : (a b c : Bool) → ((a || b) || c) ≡ (a || (b || c))
-or-assoc true b c = refl
-or-assoc false b c = refl
 
 pub both-nothing : (g : Fanned) → both nothing g ≡ g
 unfolding both

@@ -2,7 +2,6 @@
 -- Assumes nothing.
 use mathlib.Core.Path.{_≡_, refl, sym, ap, _∙_}
 use mathlib.Core.Logic.{inl}
-use mathlib.Core.Bool.{Bool, true, false, _||_, true≢false}
 use mathlib.Core.List.{List, [], _∷_, _++_}
 use Prim.Native.Nat.{ℕ, _+_, _≤_, _<_}
 use native.Mathlib.Nat.{zero-add}
@@ -13,6 +12,7 @@ use lib.ListN.{length, getD, take}
 use lib.Seq.{take-suc}
 use lib.Ieee.{Float}
 use lib.Dec.{ltb}
+use Rattle.lists.proofs.AllTo.{neither}
 use Rattle.lists.proofs.Only.{only-getD}
 use Rattle.site.specs.declared.Site.{Site}
 use Rattle.site.specs.Tables.{Tables, firstOf, lenOf}
@@ -92,14 +92,6 @@ module _ {k : Rooms} {v : View} {points boxes : List Float} {polygons : List ℕ
 
 -- ---- the end of the scan
 
-or-first : (a b : Bool) → (a || b) ≡ false → a ≡ false
-or-first false b h = refl
-or-first true b h = h
-
-or-second : (a b : Bool) → (a || b) ≡ false → b ≡ false
-or-second false b h = h
-or-second true b h = absurd (true≢false h)
-
 module _ {k : Rooms} {g : Fanned} {t : Tally} {f f' : List Float} {w w' : List ℕ} (a : Added k g zeroTally f w t f' w')
     (r : Fan) (c : r .candidates ≡ t .candidates) (e : r .edges ≡ t .edges) (v : r .events ≡ t .events) (b : r .touch ≡ t .touch) (o : r .over ≡ isOver k (t .edges) (t .events)) where
   edges-are : t .edges ≡ length (g .edges)
@@ -115,8 +107,8 @@ module _ {k : Rooms} {g : Fanned} {t : Tally} {f f' : List Float} {w w' : List �
     events = v ∙ events-are;
     touch = b ∙ a .touch;
     over = o ∙ ap (λ (n : ℕ). isOver k n (t .events)) edges-are ∙ ap (isOver k (length (g .edges))) events-are;
-    edges-stand = λ h. ap (edgesIn k f' w') e ∙ a .edges-stand (ltb-false _ _ (or-first (ltb (k .edges) (t .edges)) _ (sym o ∙ h)));
-    events-stand = λ h. ap (eventsIn k f' w') v ∙ a .events-stand (ltb-false _ _ (or-second (ltb (k .edges) (t .edges)) _ (sym o ∙ h)));
+    edges-stand = λ h. ap (edgesIn k f' w') e ∙ a .edges-stand (ltb-false _ _ (neither (ltb (k .edges) (t .edges)) _ (sym o ∙ h) .0));
+    events-stand = λ h. ap (eventsIn k f' w') v ∙ a .events-stand (ltb-false _ _ (neither (ltb (k .edges) (t .edges)) _ (sym o ∙ h) .1));
     floats-only = a .floats-only;
     words-only = a .words-only;
   }

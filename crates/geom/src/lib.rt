@@ -1,4 +1,5 @@
-// Small geometry in the plane: the Rust's `geom.rs`, its names and its order kept. Each function is total and refuses nothing.
+// Small geometry in the plane: the Rust's `geom.rs`, its names and its order kept. Every public function takes whatever floats and points it is given,
+// refuses nothing, and promises its one answer; `corner` alone asks something of its caller: a point that the list has. In the private `spans` a yes alone is promised.
 // Meanings: specs/Vec.antt, specs/Box.antt, specs/Segment.antt, specs/Ring.antt. One rounding for each operation, in the Rust's order.
 // A list of points is a slice of numbers, x and y by turns; an odd last number is not a point.
 // A comparison has no effect, so where the Rust joins comparisons by `&&`, `&` stands here: no branch.

@@ -23,7 +23,7 @@ use Rattle.lists.proofs.Joined.{joined-in, in-joined, all-joined, length-joined
 use Rattle.geom.specs.declared.Aabb.{Aabb}
 use Rattle.grid.specs.Range.{rangeOf, InGrid}
 use Rattle.grid.specs.Stamps.{epochAfter, marksBegun, firsts, Fresh}
-use Rattle.grid.specs.Entries.{cellOf, cellsFrom, rowsFrom, entriesIn, entryCount, Inside, EntryOf, Sound, Named}
+use Rattle.grid.specs.Entries.{cellOf, cellsFrom, rowsFrom, entriesIn, entryCount, Inside, EntryOf, SoundGrid, Named}
 use Rattle.grid.specs.Query.{Outcome, outcomeBy, outcome}
 use Rattle.grid.specs.declared.CellRange.{CellRange}
 use Rattle.grid.specs.declared.Grid.{Grid}
@@ -45,7 +45,7 @@ listed-by : (e : ℕ) (m : List ℕ) (x y : ℕ) (ys : List ℕ) (b : Bool) → 
 listed-by e m x y ys true t f g i = inr (f (rw (seen-firsts e m y ys (eqb-true _ _ t)) at i))
 listed-by e m x y ys false t f g i = ⊎-elim inl (λ k. inr (g k)) (rw (new-firsts e m y ys (eqb-false _ _ t)) at i)
 
-listed-in : (e : ℕ) (m : List ℕ) (x : ℕ) (xs : List ℕ) → In x (firsts e m xs) → In x xs
+pub listed-in : (e : ℕ) (m : List ℕ) (x : ℕ) (xs : List ℕ) → In x (firsts e m xs) → In x xs
 listed-in e m x [] i = rw firsts-nil at i
 listed-in e m x (y ∷ ys) i = listed-by e m x y ys _ refl (listed-in e m x ys) (listed-in e (set m y e) x ys) i
 
@@ -123,7 +123,7 @@ entries-count g r starts items =
     (λ j h. length-joined (λ i. cellOf starts items ((r .r0 + j) * g .cols + r .c0 + i)) (suc (r .c1) - r .c0))
 
 -- a cell's entries are items, so they are ids
-pub cell-named : {cols rows : ℕ} {starts items : List ℕ} (n c : ℕ) → Sound cols rows starts items → Named (cols * rows) starts items n → c < cols * rows → AllBelow n (cellOf starts items c)
+pub cell-named : {cols rows : ℕ} {starts items : List ℕ} (n c : ℕ) → SoundGrid cols rows starts items → Named (cols * rows) starts items n → c < cols * rows → AllBelow n (cellOf starts items c)
 cell-named {cols} {rows} {starts} {items} n c s ids h =
     let o = row-of s c 1 (omega arith) in
     let z : getD starts (suc c) 0 ≤ getD starts (cols * rows) 0 = start-last s (suc c) h in
@@ -132,7 +132,7 @@ cell-named {cols} {rows} {starts} {items} n c s ids h =
     let l : i < getD starts (suc c) 0 - getD starts c 0 = omega (arith, k, mid-len (getD starts c 0) (getD starts (suc c) 0) items (omega (arith, s .last))) in
     rw (getD-part (getD starts c 0) (getD starts (suc c) 0) items i 0 l) (ids (getD starts c 0 + i) (omega arith)))
 
-entries-named : (g : Grid) (r : CellRange) (starts items : List ℕ) (n : ℕ) → InGrid g r → Sound (g .cols) (g .rows) starts items → Named (g .cols * g .rows) starts items n
+entries-named : (g : Grid) (r : CellRange) (starts items : List ℕ) (n : ℕ) → InGrid g r → SoundGrid (g .cols) (g .rows) starts items → Named (g .cols * g .rows) starts items n
     → AllBelow n (entriesIn g r starts items)
 unfolding entriesIn rowsFrom cellsFrom
 entries-named g r starts items n o s ids =
@@ -157,13 +157,13 @@ pub record Fair (g : Grid) (r : CellRange) (starts items : List ℕ) (k : ℕ) (
   -- and the stamps serve the next query
   pub again : Fresh (o .epoch) (o .marks)
 
-begun-length : (e : ℕ) (m : List ℕ) (b : Bool) → ltb e 4294967295 ≡ b → length (marksBegun e m) ≡ length m
+pub begun-length : (e : ℕ) (m : List ℕ) (b : Bool) → ltb e 4294967295 ≡ b → length (marksBegun e m) ≡ length m
 begun-length e m true t = rw t
 begun-length e m false t = rw t (length-replicate (length m) 0)
 
 -- THE BOX QUERY over sound tables and fresh stamps
 pub fair-query : (g : Grid) (b : Aabb) (r : CellRange) (starts items m : List ℕ) (e k : ℕ) → rangeOf g b ≡ Cells r → InGrid g r
-    → Sound (g .cols) (g .rows) starts items → Named (g .cols * g .rows) starts items (length m) → Fresh e m
+    → SoundGrid (g .cols) (g .rows) starts items → Named (g .cols * g .rows) starts items (length m) → Fresh e m
     → Fair g r starts items k (outcome g b starts items m e k)
 unfolding outcome outcomeBy
 fair-query g b r starts items m e k is o s ids f =

@@ -15,7 +15,7 @@ use Rattle.lists.specs.Parts.{part}
 use Rattle.lists.specs.Members.{Rises}
 use Rattle.lists.proofs.Members.{rises-sub, rises-le}
 use Rattle.lists.proofs.Joined.{joined-first, joined-ext, joined-parts}
-use Rattle.grid.specs.Entries.{cellOf, cellsFrom, rowsFrom, Sound, RowIn, rowPart}
+use Rattle.grid.specs.Entries.{cellOf, cellsFrom, rowsFrom, SoundGrid, RowIn, rowPart}
 
 -- the next row
 pub rows-cons : (starts items : List ℕ) (cols c n r k : ℕ)
@@ -68,7 +68,7 @@ pub part-len : (starts items : List ℕ) (c n : ℕ) → RowIn starts items c n 
 unfolding rowPart
 part-len starts items c n r = mid-len (getD starts c 0) (getD starts (c + n) 0) items (r .within)
 
-module _ {cols rows : ℕ} {starts items : List ℕ} (s : Sound cols rows starts items) where
+module _ {cols rows : ℕ} {starts items : List ℕ} (s : SoundGrid cols rows starts items) where
   sub-rise : (c n : ℕ) → c + n ≤ cols * rows → Rises starts c n
   sub-rise c n h = rises-sub starts 0 (cols * rows) c n (omega arith) (omega arith) (s .rise)
 

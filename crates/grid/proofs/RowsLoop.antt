@@ -8,7 +8,7 @@ use native.Mathlib.Numerals.{add-one}
 use lib.ListN.{length, getD, length-append}
 use lib.Seq.{sets}
 use Rattle.grid.specs.Stamps.{stamped, firsts}
-use Rattle.grid.specs.Entries.{rowsFrom, Sound, RowIn, rowPart, tallyOf}
+use Rattle.grid.specs.Entries.{rowsFrom, SoundGrid, RowIn, rowPart, tallyOf}
 use Rattle.grid.specs.declared.Tally.{Tally}
 use Rattle.grid.proofs.Rows.{rows-cons, rows-nil, row-in, start-le, row-of, part-of, part-len}
 use Rattle.grid.proofs.Stamping.{length-firsts, Left, begun, moved, part}
@@ -40,7 +40,7 @@ module _ (starts items : List ℕ) (cols c n r1 : ℕ) where
       → marks′ ≡ marks → ids′ ≡ ids → found′ ≡ found → read′ ≡ read → Walked row₀ marks₀ e ids₀ marks′ ids′ row found′ read′
   moved-w w o p q r = rw (o, p, q, r) w
 
-  module _ {rows : ℕ} (s : Sound cols rows starts items) (hr : r1 < rows) (hc : c + n ≤ cols) where
+  module _ {rows : ℕ} (s : SoundGrid cols rows starts items) (hr : r1 < rows) (hc : c + n ≤ cols) where
     -- a row that is left: its cells lie in the grid
     in-grid : (row : ℕ) → row ≤ r1 → row * cols + c + n ≤ cols * rows
     in-grid row h = row-in cols rows c n row (omega arith) hc

@@ -47,7 +47,7 @@ EntryOf g r starts items id = (row : ℕ) × (col : ℕ) × Inside r row col × 
 
 -- SOUND TABLES, as the queries need them. A caller shows them by document 01's tests of lent tables (refusal 6), field by field:
 -- "columns and rows at least 1"; "starts number cells plus one"; "never fall"; "end at the item count", which is at most the length lent for the items
-pub record Sound (cols rows : ℕ) (starts items : List ℕ) : Type 0 where
+pub record SoundGrid (cols rows : ℕ) (starts items : List ℕ) : Type 0 where
   pub has-cols : 0 < cols
   pub has-rows : 0 < rows
   pub starts-len : cols * rows < length starts

@@ -4,3 +4,4 @@ pub mod Range
 pub mod Stamps
 pub mod Entries
 pub mod Query
+pub mod Numbers

@@ -59,6 +59,14 @@ outcomeBy g (Cells r) starts items m e k = meeting (entriesIn g r starts items) 
 unfoldable pub outcome : Grid → Aabb → List ℕ → List ℕ → List ℕ → ℕ → ℕ → Outcome
 outcome g b = outcomeBy g (rangeOf g b)
 
+-- the ids that a query finds, whatever room is lent for them: those that the Rust's visitor is called with
+unfoldable pub foundBy : Grid → Range → List ℕ → List ℕ → List ℕ → ℕ → List ℕ
+foundBy g Nothing starts items m e = []
+foundBy g (Cells r) starts items m e = firsts (epochAfter e) (marksBegun e m) (entriesIn g r starts items)
+
+unfoldable pub foundOf : Grid → Aabb → List ℕ → List ℕ → List ℕ → ℕ → List ℕ
+foundOf g b = foundBy g (rangeOf g b)
+
 -- the items of the cell that holds p, none off the grid
 unfoldable pub itemsBy : Grid → Range → List ℕ → List ℕ → List ℕ
 itemsBy g Nothing starts items = []

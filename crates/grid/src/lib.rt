@@ -1,6 +1,7 @@
 // The uniform grid over a site, its questions and the stamps: `grid.rs` of the Rust without the building of its tables (crate `tables`)
 // and the ray walk (crate `walk`). The tables are lent as number lists; a visitor becomes a list writer. Document 01, "Site and grid".
-// Meanings: specs/Boxes.antt (the list of boxes), specs/Range.antt (columns and cell ranges), specs/Stamps.antt, specs/Entries.antt (what the tables say), specs/Query.antt.
+// Meanings: specs/Boxes.antt (the list of boxes), specs/Range.antt (columns and cell ranges), specs/Stamps.antt, specs/Entries.antt (what the tables say), specs/Query.antt,
+// specs/Numbers.antt (a query's answer as numbers).
 use geom::Aabb;
 use geom::Vec2;
 ghost use mathlib.Core.Path.{_≡_};
@@ -11,7 +12,7 @@ ghost use Rattle.num.specs.Num.{floorOf};
 ghost use Rattle.grid.specs.Boxes.{boxFrom, boxAt};
 ghost use Rattle.grid.specs.Range.{dimsOf, columnsOf, cellIndex, rangeBy, rangeOf, isOff, InGrid};
 ghost use Rattle.grid.specs.Stamps.{epochAfter, marksBegun, unseen, stamped, firsts};
-ghost use Rattle.grid.specs.Entries.{cellOf, entriesIn, Sound, RowIn, rowPart, tallyOf};
+ghost use Rattle.grid.specs.Entries.{cellOf, entriesIn, SoundGrid, RowIn, rowPart, tallyOf};
 ghost use Rattle.grid.specs.Query.{Is, outcome, outcomeBy, itemsAt};
 
 // The Rust's `UniformGrid` without its two tables, `starts` and `items`.
@@ -319,7 +320,7 @@ fn stamp_rows(
     e: u32,
     ids: &mut [u32],
 ) -> Tally
-    requires { ⌜ Sound (g .cols) (g .rows) (now starts) (now items) ⌝ }
+    requires { ⌜ SoundGrid (g .cols) (g .rows) (now starts) (now items) ⌝ }
     requires { ⌜ InGrid g r ⌝ }
     ensures { λ t. ⌜ t ≡ tallyOf e (now (marks .entry)) (entriesIn g r (now (starts .entry)) (now (items .entry))) ⌝ }
     ensures { λ t. ⌜ now (marks .exit) ≡ stamped e (now (marks .entry)) (entriesIn g r (now (starts .entry)) (now (items .entry))) ⌝ }
@@ -348,7 +349,7 @@ fn range_query(
     epoch: &mut u32,
     ids: &mut [u32],
 ) -> Listing
-    requires { ⌜ Sound (g .cols) (g .rows) (now starts) (now items) ⌝ }
+    requires { ⌜ SoundGrid (g .cols) (g .rows) (now starts) (now items) ⌝ }
     requires { ⌜ InGrid g r ⌝ }
     ensures { λ a. ⌜ Is (outcomeBy g (Range.Cells r) (now (starts .entry)) (now (items .entry)) (now (marks .entry)) (now (epoch .entry)) (length (now (ids .entry))))
         a (now (marks .exit)) (now (epoch .exit)) (now (ids .exit)) ⌝ }
@@ -377,7 +378,7 @@ pub fn box_query(
     epoch: &mut u32,
     ids: &mut [u32],
 ) -> Listing
-    requires { ⌜ Sound (g .cols) (g .rows) (now starts) (now items) ⌝ }
+    requires { ⌜ SoundGrid (g .cols) (g .rows) (now starts) (now items) ⌝ }
     ensures { λ a. ⌜ Is (outcome g b (now (starts .entry)) (now (items .entry)) (now (marks .entry)) (now (epoch .entry)) (length (now (ids .entry))))
         a (now (marks .exit)) (now (epoch .exit)) (now (ids .exit)) ⌝ }
 {

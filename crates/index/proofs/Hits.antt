@@ -45,7 +45,7 @@ module _ (slack : Float) (o dir : Vec2) (all : List ℕ) where
   walk-known (e ∷ l) b a h =
       ⊎-elim (λ q. rw q h) (λ q. rw q (walk-known l (meetOf slack o dir e b) (a .1) (meet-known e b (a .0) h))) (by-test (le (b .t) (e .near)))
 
-in-map : {A B : Type 0} (f : A → B) (x : A) (l : List A) → In x l → In (f x) (map f l)
+pub in-map : {A B : Type 0} (f : A → B) (x : A) (l : List A) → In x l → In (f x) (map f l)
 in-map f x [] i = absurd i
 in-map f x (y ∷ l) i = ⊎-elim (λ e. inl (ap f e)) (λ k. inr (in-map f x l k)) i
 

@@ -1,4 +1,4 @@
--- The index of the front edges by angle: `AngularIndex::build` (`visibility.rs`, lines 480 to 537). Each bucket has the edges that cover it, nearest
+-- The index of the front edges by angle: `AngularIndex::build` (`visibility.rs`, lines 532 to 567). Each bucket has the edges that cover it, nearest
 -- first. Document 01, "Outlines from a post" ("Buckets"; "the first met in order of nearness stays"). Definitions only.
 use mathlib.Core.Bool.{Bool}
 use mathlib.Core.List.{List, [], _∷_}

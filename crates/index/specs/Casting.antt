@@ -1,4 +1,4 @@
--- A cast: the nearest edge that a ray hits, among those of the ray's bucket: `AngularIndex::cast` (`visibility.rs`, lines 540 to 568).
+-- A cast: the nearest edge that a ray hits, among those of the ray's bucket: `AngularIndex::cast` (`visibility.rs`, lines 569 to 592).
 -- Document 01: "An edge's distance and number, or a miss, is the answer of a cast; of equal distances the first met in order of nearness stays".
 -- It is not said to be the nearest of all front edges: nearness and distance round differently ("Errors that look right", 1). Definitions only.
 use mathlib.Core.Bool.{true, false, cond}

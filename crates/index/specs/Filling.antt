@@ -1,5 +1,5 @@
 -- What the passes of the building ask and do: noting each edge's buckets, counting by marks, summing, and putting in, from the farthest edge to the nearest
--- (`visibility.rs`, lines 503 to 528). The notes stand from `notesW` on, the starts from `startsW` on and the references from `refsW` on.
+-- (`visibility.rs`, lines 539 to 559). The notes stand from `notesW` on, the starts from `startsW` on and the references from `refsW` on.
 -- Definitions only.
 use mathlib.Core.Path.{_≡_}
 use mathlib.Core.Bool.{Bool, false, cond, _&&_}

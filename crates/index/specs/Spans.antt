@@ -1,4 +1,4 @@
--- The buckets of an angle and of an edge: `AngularIndex::build`'s first lines and `span_buckets` (`visibility.rs`, lines 499 to 501 and 573 to 590).
+-- The buckets of an angle and of an edge: `AngularIndex::build`'s first lines and `span_buckets` (`visibility.rs`, lines 535 to 537 and 595 to 610).
 -- Document 01: "Buckets: twice the front edges, from 16 to 65,536, with span ends padded by 1e-9". `toUnsigned 64` is Rust's `as usize`.
 -- Definitions only.
 use mathlib.Core.Bool.{Bool, cond}

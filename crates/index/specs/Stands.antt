@@ -1,5 +1,5 @@
 -- How an index stands in the work room: bucket starts, and behind them the references, which are places of edges in the room
--- (`visibility.rs`, lines 482 to 490; the Rust moves the edges themselves into order of nearness, here they stay). Definitions only.
+-- (`visibility.rs`, lines 520 to 529; the Rust moves the edges themselves into order of nearness, here they stay). Definitions only.
 use mathlib.Core.Path.{_≡_}
 use mathlib.Core.Bool.{Bool, false, _||_}
 use mathlib.Core.List.{List, map}

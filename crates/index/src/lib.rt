@@ -1,4 +1,4 @@
-// The front edges by angle, and the cast of a ray: `AngularIndex` and `span_buckets` of `visibility.rs` (lines 480 to 590).
+// The front edges by angle, and the cast of a ray: `AngularIndex` and `span_buckets` of `visibility.rs` (lines 520 to 610).
 // The edges stay where they stand in the work room. The index is an order of nearness, the starts of the buckets, and references, which are
 // places of edges: each list in its own stretch of the lent words. Every read of a cast is total.
 // Meanings: specs/Spans.antt (buckets), specs/Angular.antt (the index), specs/Casting.antt (the cast), specs/Stands.antt (where it stands),

@@ -1,10 +1,8 @@
--- Laws of `allTo`: at a number, from every number, and step by step as a loop counts up. Assumes nothing.
+-- Laws of `allTo`: at a number, from every number, and of tests that agree. Assumes nothing.
 use mathlib.Core.Path.{_≡_, refl, ap, subst, _∙_}
 use mathlib.Core.Logic.{⊎-elim}
-use mathlib.Core.Bool.{Bool, true, false, _&&_, and-false, and-eq-true-iff}
-use Prim.Native.Nat.{ℕ, zero, suc, _+_, _≤_, _<_}
-use native.Mathlib.Numerals.{add-one}
-use native.Mathlib.Nat.{le-antisymm}
+use mathlib.Core.Bool.{Bool, true, false, _&&_, _||_, and-false, and-eq-true-iff}
+use Prim.Native.Nat.{ℕ, zero, suc, _<_}
 use native.Mathlib.Omega.{arith}
 use Rattle.lists.specs.Members.{allTo}
 use Rattle.lists.proofs.Cases.{lt-or-le}
@@ -12,6 +10,11 @@ use Rattle.lists.proofs.Cases.{lt-or-le}
 -- both tests pass
 pub both : (a b : Bool) → (a && b) ≡ true → (a ≡ true) × (b ≡ true)
 both a b e = and-eq-true-iff a b .0 e
+
+-- neither of two passes
+pub neither : (a b : Bool) → (a || b) ≡ false → (a ≡ false) × (b ≡ false)
+neither true b e = (e, (cc))
+neither false b e = (refl, e)
 
 -- where every number below n passes, each does
 pub allTo-at : (p : ℕ → Bool) (n : ℕ) → allTo p n ≡ true → (k : ℕ) → k < n → p k ≡ true
@@ -33,13 +36,6 @@ allTo-fails p (suc n) k h e =
     ⊎-elim (λ l. ap (λ (b : Bool). b && p n) (allTo-fails p n k l e))
     (λ l. let q : k ≡ n = omega arith in ap (λ (b : Bool). allTo p n && b) (subst (λ (i : ℕ). p i ≡ false) q e) ∙ and-false (allTo p n))
     (lt-or-le k n)
-
--- a loop that counts up: one step, and the end
-pub allTo-step : (p : ℕ → Bool) (i : ℕ) (ok t : Bool) → ok ≡ allTo p i → t ≡ p i → (ok && t) ≡ allTo p (i + 1)
-allTo-step p i ok t e f = rw (e, f, add-one)
-
-pub allTo-end : (p : ℕ → Bool) (i n : ℕ) (ok : Bool) → ok ≡ allTo p i → i ≤ n → n ≤ i → ok ≡ allTo p n
-allTo-end p i n ok e h k = e ∙ ap (allTo p) (le-antisymm h k)
 
 -- tests that agree below n
 pub allTo-ext : (p q : ℕ → Bool) (n : ℕ) → ((k : ℕ) → k < n → p k ≡ q k) → allTo p n ≡ allTo q n

@@ -6,15 +6,12 @@ use mathlib.Core.Bool.{Bool, true, false, _||_, false≢true}
 use mathlib.Core.List.{List, [], _∷_, _++_, List·Memᴰ, List·Memᴰ·head, List·Memᴰ·tail, List·Memᴰ·cases-cons, List·Memᴰ·not-nil}
 use Prim.Native.Nat.{ℕ, zero, suc, _+_, _-_, _≤_, _<_}
 use native.Mathlib.Nat.{le-of-suc-le-suc, not-suc-le-zero, le-refl, le-trans, add-zero, add-suc, suc-add}
-use native.Mathlib.Numerals.{add-one}
 use native.Mathlib.Omega.{arith}
 use lib.Dec.{eqb}
-use borrow.Author.Tests.{eqb-true, eq-eqb, ne-eqb}
-use lib.ListN.{length, getD, take, drop, drop-of-length-le}
-use lib.Seq.{drop-cons}
+use borrow.Author.Tests.{eqb-true, eq-eqb}
+use lib.ListN.{length, getD, take, drop}
 use Rattle.lists.specs.Parts.{part}
 use Rattle.lists.specs.Members.{In, All, holds, Rises}
-use Rattle.lists.proofs.Cases.{lt-or-le}
 
 module _ {A : Type 0} where
   -- ---- the library's membership
@@ -110,16 +107,6 @@ pub in-holds : (x : ℕ) (l : List ℕ) → In x l → holds x l ≡ true
 in-holds x [] i = absurd i
 in-holds x (y ∷ l) i = ⊎-elim (λ e. rw (eq-eqb x y e)) (λ k. rw (in-holds x l k) (or-right (eqb x y))) i
 
--- a loop that looks for x: found at i, not at i, nothing left
-pub holds-here : (x : ℕ) (l : List ℕ) (i : ℕ) → i < length l → getD l i 0 ≡ x → holds x (drop i l) ≡ true
-holds-here x l i h e = rw (drop-cons l i 0 h, eq-eqb x (getD l i 0) (sym e))
-
-pub holds-next : (x : ℕ) (l : List ℕ) (i : ℕ) → i < length l → (getD l i 0 ≡ x → ⊥) → holds x (drop i l) ≡ holds x (drop (i + 1) l)
-holds-next x l i h n = rw (drop-cons l i 0 h, ne-eqb x (getD l i 0) (λ e. n (sym e)), add-one)
-
-pub holds-none : (x : ℕ) (l : List ℕ) (i : ℕ) → length l ≤ i → holds x (drop i l) ≡ false
-holds-none x l i h = rw (drop-of-length-le l h)
-
 -- ---- numbers that do not fall
 
 -- a stretch of a stretch
@@ -132,19 +119,3 @@ rises-le l c zero r = rw add-zero (le-refl _)
 rises-le l c (suc n) r =
     rw (add-suc, ← suc-add)
     (le-trans (r c (omega arith) (omega arith)) (rises-le l (suc c) n (rises-sub l c (suc n) (suc c) n (omega arith) (omega arith) r)))
-
-pub rises-none : (l : List ℕ) (c : ℕ) → Rises l c 0
-rises-none l c i p q = absurd (omega arith)
-
--- one step more
-pub rises-more : (l : List ℕ) (c n : ℕ) → Rises l c n → getD l (c + n) 0 ≤ getD l (suc (c + n)) 0 → Rises l c (suc n)
-rises-more l c n r h i p q =
-    ⊎-elim (λ k. r i p k) (λ k. let e : c + n ≡ i = omega arith in subst (λ (j : ℕ). getD l j 0 ≤ getD l (suc j) 0) e h) (lt-or-le i (c + n))
-
--- a loop that holds each number against the one before it
-pub rises-next : (l : List ℕ) (i : ℕ) → 1 ≤ i → Rises l 0 (i - 1) → getD l (i - 1) 0 ≤ getD l i 0 → Rises l 0 (i + 1 - 1)
-rises-next l i o r h =
-    let a : 0 + (i - 1) ≡ i - 1 = omega arith in
-    let b : suc (i - 1) ≡ i = omega arith in
-    let e : i + 1 - 1 ≡ suc (i - 1) = omega arith in
-    rw e (rises-more l 0 (i - 1) r (rw (a, b) h))

@@ -8,14 +8,13 @@ use native.Mathlib.Nat.{le-refl}
 use native.Mathlib.Numerals.{add-one}
 use native.Mathlib.Omega.{arith}
 use lib.ListN.{length, getD, set, drop, length-set, drop-of-length-le}
-use lib.Seq.{sets, take-all, take-set-le, drop-set-lt, ext-getD, getD-set-same, getD-set-other}
+use lib.Seq.{sets, take-all, take-set-le, drop-set-lt, getD-set-same}
 use borrow.Rule.Slice.PartMut.{putMid, mid-len, same-len-mid, set-mid-at, take-put, drop-put}
 use Rattle.lists.specs.Lists.{listed}
 use Rattle.lists.specs.Parts.{part, Only, Stored}
-use Rattle.lists.proofs.Cases.{eq-or-ne}
 use Rattle.lists.proofs.Parts.{front-less, front-getD, front-part, rest-more, rest-getD, part-behind, getD-part, put-laid, getD-has}
 use Rattle.lists.proofs.Stores.{sets-front}
-use Rattle.lists.proofs.Joined.{listed-ext, length-listed, getD-listed}
+use Rattle.lists.proofs.Joined.{listed-ext}
 
 module _ {A : Type 0} where
   -- ---- making one
@@ -105,21 +104,3 @@ module _ {A : Type 0} where
         let e : listed after i ≡ listed before i = listed-ext after before i (λ j l. s .others j (omega arith) (λ q. omega arith)) in
         let w = s .here in
         rw (add-one, e, w)
-
-    -- one of the first m
-    pub stored-set : (m : ℕ) → i < m → m ≤ n → listed after m ≡ set (listed before m) i x
-    stored-set m h k =
-        ext-getD x (listed after m) (set (listed before m) i x) (length-listed after m ∙ sym (length-set (listed before m) i x ∙ length-listed before m))
-        (λ j l. at j (omega (arith, length-listed after m)))
-      where
-        at : (j : ℕ) → j < m → getD (listed after m) j x ≡ getD (set (listed before m) i x) j x
-        at j l =
-            getD-listed after m j x l
-            ∙ ⊎-elim
-            (λ e. ap after e ∙ s .here ∙ sym (ap (λ (q : ℕ). getD (set (listed before m) i x) q x) e ∙ getD-set-same (listed before m) i x x (omega (arith, length-listed before m))))
-            (λ e. s .others j (omega arith) e ∙ sym (getD-set-other (listed before m) i j x x e ∙ getD-listed before m j x l))
-            (eq-or-ne j i)
-
-    -- not one of the first m
-    pub stored-past : (m : ℕ) → m ≤ i → m ≤ n → listed after m ≡ listed before m
-    stored-past m h k = listed-ext after before m (λ j l. s .others j (omega arith) (λ q. omega arith))

@@ -163,10 +163,6 @@ module _ {A : Type 0} where
   pub back-rest : (a : ℕ) (l v : List A) → a ≤ length l → drop a (putMid a (length l - a) l v) ≡ v
   back-rest a l v h = ap (drop a) (back a l v) ∙ drop-at (take a l) v a (length-take-le a l h)
 
-  -- lent once more, it is v
-  pub back-part : (a : ℕ) (l v : List A) → a ≤ length l → part a (length (putMid a (length l - a) l v)) (putMid a (length l - a) l v) ≡ v
-  back-part a l v h = part-rest a (putMid a (length l - a) l v) ∙ back-rest a l v h
-
   -- ---- a loop that copies s over d from a place on
 
   pub paste-more : (d : List A) (at : ℕ) (s : List A) (j : ℕ) (z : A) {l : List A} {v : A} {k : ℕ}

@@ -6,7 +6,7 @@ use mathlib.Core.List.{List, [], _∷_, _++_}
 use Prim.Native.Nat.{ℕ, suc, _+_, _<_}
 use native.Mathlib.Nat.{zero-add, suc-add, add-zero, add-suc}
 use lib.Ieee.{nan, binary64, div, ofBits}
-use lib.ListN.{length, getD, set, take, drop, length-set}
+use lib.ListN.{length, getD, set, take, drop}
 use lib.Seq.{sets, set-out, getD-set-same, getD-set-other, set-append-left, drop-nil}
 use Rattle.num.specs.Ops.{zeroF}
 use Rattle.lists.proofs.Cases.{lt-or-le, eq-or-ne}
@@ -27,17 +27,6 @@ module _ {A : Type 0} where
           (λ r. subst P (sym (ap (λ (q : ℕ). getD (set l i v) q d) e ∙ getD-set-same l i v d r)) h)
           (λ r. subst P (sym (ap (λ (q : List A). getD q j d) (set-out l i v r))) k)
           (lt-or-le i (length l))
-
-  -- two stores, at p and at q: what stands at each, and at a place beside them
-  module _ (l : List A) (p q : ℕ) (d a b : A) where
-    pub two-first : (p ≡ q → ⊥) → p < length l → getD (set (set l p a) q b) p d ≡ a
-    two-first n h = getD-set-other (set l p a) q p b d n ∙ getD-set-same l p a d h
-
-    pub two-second : q < length l → getD (set (set l p a) q b) q d ≡ b
-    two-second h = getD-set-same (set l p a) q b d (simp length-set h)
-
-    pub two-other : (j : ℕ) → (j ≡ p → ⊥) → (j ≡ q → ⊥) → getD (set (set l p a) q b) j d ≡ getD l j d
-    two-other j n m = getD-set-other (set l p a) q j b d m ∙ getD-set-other l p j a d n
 
   -- a store into the second of two lists, and into the middle of three
   pub set-append-add : (xs ys : List A) (i : ℕ) (v : A) → set (xs ++ ys) (length xs + i) v ≡ xs ++ set ys i v

@@ -8,7 +8,7 @@ use native.Mathlib.Nat.{sub-zero}
 use native.Mathlib.Numerals.{add-one}
 use native.Mathlib.Omega.{arith}
 use lib.ListN.{length, getD, set, take, replicate, length-append, length-set, length-replicate, drop-of-length-le, List·getD-append}
-use lib.Seq.{sets, sets-eq, take-all, take-at, ext-getD, getD-append-add}
+use lib.Seq.{sets, sets-eq, take-all, ext-getD, getD-append-add}
 use Rattle.lists.specs.Lists.{listed}
 use Rattle.lists.specs.Parts.{Has, padded}
 use Rattle.lists.proofs.Cases.{lt-or-le}
@@ -62,9 +62,6 @@ module _ {A : Type 0} (z : A) where
 
   pub length-padded : (n : ℕ) (l : List A) → length l ≤ n → length (padded z n l) ≡ n
   length-padded n l h = length-append l (replicate (n - length l) z) ∙ omega (arith, length-replicate (n - length l) z)
-
-  pub has-padded : (n : ℕ) (l : List A) → Has (padded z n l) 0 l
-  has-padded n l = take-at l (replicate (n - length l) z) (length l) refl
 
   pub getD-padded : (n : ℕ) (l : List A) (k : ℕ) (d : A) → k < length l → getD (padded z n l) k d ≡ getD l k d
   getD-padded n l k d h = List·getD-append l (replicate (n - length l) z) d k h

@@ -1,14 +1,14 @@
 -- The order of floats of either sign: `le` is transitive and follows the exact values, a test that fails turns the other way and one that holds shuts the
--- other way out, a number equals itself, and Rust's `min` and `max` keep to it. Assumes nothing.
-use mathlib.Core.Path.{_≡_, refl, sym, subst}
+-- other way out, the other sign turns it round, a number equals itself, and Rust's `min` and `max` keep to it. Assumes nothing.
+use mathlib.Core.Path.{_≡_, refl, sym, ap, subst}
 use mathlib.Core.Logic.{_⊎_, inl, inr}
 use Prim.Native.Nat.{ℕ, _+_, _*_, _≤_, _<_, zero-le}
 use native.Mathlib.Nat.{le-trans, le-of-eq, le-of-lt, not-le-of-lt, add-mul, zero-mul, mul-right-comm, mul-le-mul-right, le-of-mul-le-mul-right}
 use native.Mathlib.Omega.{arith}
-use mathlib.Core.Bool.{Bool, true, false, not, _&&_, _||_, cond}
+use mathlib.Core.Bool.{Bool, true, false, not, _&&_, _||_, cond, Bool·not-not}
 use lib.IntN.{ℤ}
 use lib.Dec.{T, ltb, eqb, ltb→lt, nltb→le, eqb→eq, eqb-refl}
-use lib.Ieee.{Float, nan, inf, fin, up, down, below, level, lt, eq, le, isNan}
+use lib.Ieee.{Float, nan, inf, fin, up, down, below, level, neg, lt, eq, le, isNan}
 use lib.Ieee.Fits.{down-pos, and-i, and-l, and-r, eq→eqb}
 use lib.Ieee.Exact.{HasValue}
 use Rattle.num.specs.Num.{minOf, maxOf, clampOf}
@@ -111,7 +111,7 @@ unscale k true a true b K h = le-of-mul-le-mul-right h K
 Le-cong : (s : Bool) (a a' : ℕ) (t : Bool) (b b' : ℕ) → a ≡ a' → b ≡ b' → Le s a t b → Le s a' t b'
 Le-cong s a a' t b b' p q h = subst (λ (x : ℕ). Le s x t b') p (subst (λ (x : ℕ). Le s a t x) q h)
 
-Le-eq : (s : Bool) (a b : ℕ) → a ≡ b → Le s a s b
+pub Le-eq : (s : Bool) (a b : ℕ) → a ≡ b → Le s a s b
 Le-eq false a b e = le-of-eq e
 Le-eq true a b e = le-of-eq (sym e)
 
@@ -206,6 +206,34 @@ trans (fin s m e) (fin t n d) (fin u o g) h k =
 
 pub lt-le-trans : (x y z : Float) → T (lt x y) → T (le y z) → T (lt x z)
 lt-le-trans x y z h k = on-test (lt x z) (λ t. t) (λ t. absurd (lt-not-le x y h (trans y z x k (not-lt z x (le-right y z k) (le-left x y (lt-le x y h)) t))))
+
+-- ---- the other sign turns the order round
+turned : (s : Bool) (a : ℕ) (t : Bool) (b : ℕ) → Le s a t b → Le (not t) b (not s) a
+turned false a false b h = h
+turned false a true b h = swap b a h
+turned true a false b h = zero-le
+turned true a true b h = h
+
+pub neg-le : (x y : Float) → T (le x y) → T (le (neg y) (neg x))
+unfolding le neg
+neg-le nan y h = absurd h
+neg-le (inf s) nan h = absurd h
+neg-le (inf true) (inf true) h = tt
+neg-le (inf true) (inf false) h = tt
+neg-le (inf false) (inf true) h = absurd h
+neg-le (inf false) (inf false) h = tt
+neg-le (inf true) (fin t n d) h = tt
+neg-le (inf false) (fin t n d) h = absurd h
+neg-le (fin s m e) nan h = absurd h
+neg-le (fin s m e) (inf true) h = absurd h
+neg-le (fin s m e) (inf false) h = tt
+neg-le (fin s m e) (fin t n d) h = fin-said (not t) n d (not s) m e (turned s (m * up e * down d) t (n * up d * down e) (fin-says s m e t n d h))
+
+pub neg-neg : (x : Float) → neg (neg x) ≡ x
+unfolding neg
+neg-neg nan = refl
+neg-neg (inf s) = ap inf (Bool·not-not s)
+neg-neg (fin s m e) = ap (λ (b : Bool). fin b m e) (Bool·not-not s)
 
 -- ---- by exact values: x is ±a / c and y is ±b / d
 pub value-le : (x y : Float) (s : Bool) (a c : ℕ) (t : Bool) (b d : ℕ) → HasValue x s a c → HasValue y t b d → T (le x y) → Le s (a * d) t (b * c)

@@ -5,7 +5,7 @@ use native.Mathlib.Nat.{mul-le-mul-right, zero-mul, mul-pos, lt-irrefl, pow-succ
 use native.Mathlib.Omega.{arith}
 use mathlib.Core.Bool.{Bool, true, false, true≢false, false≢true}
 use lib.IntN.{ℤ, pos, negsuc}
-use lib.Dec.{T, ltb, eqb, ltb→lt, nltb→le, eqb→eq, T-not, lt→ltb, lit≤}
+use lib.Dec.{T, eqb, ltb→lt, nltb→le, eqb→eq, T-not, lt→ltb, lit≤}
 use lib.Pow.{pow-pos}
 use lib.Ieee.{Float, nan, inf, fin, binary64, up, down, round, neg, lt, eq, ofInt, toUnsigned, fits}
 use lib.Ieee.Fits.{down-pos, up-pos, and-i, and-l, eq→eqb}
@@ -46,7 +46,7 @@ floor-pos (fin false m e) p q = ap (λ (n : ℕ). round binary64 false n 1) (cut
 one-more : (a : ℕ) → (a + (1 - 1)) / 1 ≡ a
 one-more a = omega arith
 
-same-down : (s : Bool) (a : ℕ) → downTo s a 1 ≡ a
+pub same-down : (s : Bool) (a : ℕ) → downTo s a 1 ≡ a
 same-down false a = div-one a
 same-down true a = one-more a
 

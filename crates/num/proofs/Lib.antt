@@ -1,4 +1,4 @@
--- The laws under the functions of `num`, the order of floats and of roots, and the theorems: SquareRoot, Remainder, TotalOrder.
+-- The laws under the functions of `num`, the order of floats and of roots, and the theorems: FloorExact, SquareRoot, Remainder, TotalOrder.
 pub mod Whole
 pub mod FloatOrder
 mod FloorLaws
@@ -10,6 +10,7 @@ mod RemLaws
 pub mod NearLaws
 mod BitLaws
 pub mod Ranks
+pub mod FloorExact
 pub mod SquareRoot
 pub mod Remainder
 pub mod TotalOrder

@@ -200,26 +200,6 @@ by-digits m e n h l k v =
     let y = root-by m e n h v in
     subst (λ (r : Float). NearestRoot (fin false (suc m) e) r) (sym (y .1)) (nearest-at n h (y .0) l k (fin false (suc m) e) (units-of-value (fin false (suc m) e) false (n * 2 ^ h) v))
 
--- for every positive finite float x, `sqrtOf x` is strictly nearer to the root of x than any other float
-pub sqrt-nearest : (m : ℕ) (e : ℤ) → T (fits binary64 (fin false (suc m) e)) → NearestRoot (fin false (suc m) e) (sqrtOf (fin false (suc m) e))
-sqrt-nearest m e f = go (b / 4503599627370496) (b % 4503599627370496) (mod-lt b (zero-lt-suc 4503599627370495)) (read-at (fin false (suc m) e) f m e refl)
-  where
-    b : ℕ
-    b = toBits binary64 (fin false (suc m) e)
-
-    less : (t : ℕ) → t < 4503599627370496 → t < 9007199254740992
-    less t h = omega arith
-
-    less' : (t : ℕ) → t < 4503599627370496 → t + 4503599627370496 < 9007199254740992
-    less' t h = omega arith
-
-    up : (g : ℕ) → g ≤ 2045 → g ≤ 2046
-    up g h = omega arith
-
-    go : (x t : ℕ) → t < 4503599627370496 → Read (fin false (suc m) e) x t → NearestRoot (fin false (suc m) e) (sqrtOf (fin false (suc m) e))
-    go zero t l r = by-digits m e t 0 (less t l) zero-le r
-    go (suc g) t l r = by-digits m e (t + 4503599627370496) g (less' t l) (up g (r .1)) (r .0)
-
 -- a float is its size and its sign: equal sizes in units, equal bits
 pub same-bits : (s : Bool) (a : ℕ) (g : ℤ) (n : ℕ) (d : ℤ) → inUnits (fin s a g) ≡ inUnits (fin s n d) → toBits binary64 (fin s a g) ≡ toBits binary64 (fin s n d)
 unfolding toBits

@@ -5,7 +5,7 @@ use Prim.Native.Nat.{ℕ, zero, suc, _+_, _-_, _*_, _/_, _%_, _^_, _≤_, _<_, z
 use native.Mathlib.Nat.{mul-one, one-mul, mul-pos, mul-comm, mul-assoc, mul-left-comm, mul-mul-mul-comm, add-mul, mul-add, lt-irrefl, lt-of-lt-of-le, lt-of-le-of-lt, le-of-eq, le-trans, le-of-lt, le-antisymm, zero-lt-suc, lt-of-not-le, not-le-of-lt, mul-le-mul, mul-le-mul-right, mul-lt-mul-of-pos-right, div-lt-iff-lt-mul, div-add-mod', mod-lt, mul-div-cancel, pow-suc, pow-succ', div-eq-of-lt-le, add-sub-of-le}
 use native.Mathlib.Omega.{arith}
 use mathlib.Core.Bool.{Bool, true, false, not, cond}
-use lib.Dec.{T, isLe, isEq, leb, eqb, leb→le, nleb→lt, eqb→eq, lit≤, lit<}
+use lib.Dec.{T, isLe, isEq, leb, leb→le, nleb→lt, eqb→eq, lit≤, lit<}
 use lib.Pow.{pow-pos, pow-mono}
 use lib.Ieee.{binary64, size, nearest, units, round}
 use lib.Ieee.Digits.{size-lt, size-le}
@@ -59,9 +59,6 @@ root-below a b h = lt-of-not-le (λ (g : b ≤ a). not-le-of-lt h (mul-le-mul g 
 
 pub suc-le : (a b : ℕ) → a < b + 1 → a ≤ b
 suc-le a b h = omega arith
-
-pub root-unique : (n r s : ℕ) → RootOf n r → RootOf n s → r ≡ s
-root-unique n r s p q = le-antisymm (suc-le r s (root-below r (s + 1) (lt-of-le-of-lt (p .0) (q .1)))) (suc-le s r (root-below s (r + 1) (lt-of-le-of-lt (q .0) (p .1))))
 
 -- ---- the root of N * 4 ^ u, with w = 2 ^ u
 pub square : (a w : ℕ) → a * w * (a * w) ≡ a * a * (w * w)

@@ -1,10 +1,12 @@
 -- What the functions of `num` answer, on every float: IEEE 754-2019's operations by exact values, Rust's by its library's pages.
 -- A float is `nan`, an infinity, or `fin s m e`: m * 2 ^ e, negative where s is true; `up e / down e` is 2 ^ e as a fraction (the kit's `lib.Ieee`).
--- Definitions only.
+-- The records say what a floor and a ceiling are, whatever computes them. Definitions only.
 use Prim.Native.Nat.{ℕ, _+_, _-_, _*_, _/_, _%_}
 use mathlib.Core.Bool.{Bool, true, false, not, cond}
-use lib.Dec.{eqb}
-use lib.Ieee.{Float, nan, inf, fin, binary64, up, down, round, lt, isNan}
+use lib.IntN.{ℤ, pos}
+use lib.Dec.{T, eqb}
+use lib.Ieee.{Float, nan, inf, fin, binary64, up, down, round, lt, le, fits, isNan}
+use lib.Ieee.Exact.{HasValue}
 
 -- the whole number that a / b, with the sign s, is rounded down to, without its sign: a negative number goes away from zero
 abbrev pub downTo : Bool → ℕ → ℕ → ℕ
@@ -24,6 +26,27 @@ unfolding round
 ceilOf nan = nan
 ceilOf (inf s) = inf s
 ceilOf (fin s m e) = round binary64 s (downTo (not s) (m * up e) (down e)) 1
+
+-- ---- what a floor and a ceiling are, whatever computes them. `le` compares exact values, also those that no format holds.
+-- the whole number n, or -n where t is true
+abbrev pub wholeNumber : Bool → ℕ → Float
+wholeNumber t n = fin t n (pos 0)
+
+-- r is a float, and exactly a whole number, with the sign of ±m * 2 ^ e (so -0 stays -0). Of the whole numbers that are not above ±m * 2 ^ e it is the largest.
+pub record IsFloor (s : Bool) (m : ℕ) (e : ℤ) (r : Float) : Type 0 where
+  pub size : ℕ
+  pub exact : HasValue r s size 1
+  pub of-format : T (fits binary64 r)
+  pub not-above : T (le r (fin s m e))
+  pub largest : (t : Bool) (n : ℕ) → T (le (wholeNumber t n) (fin s m e)) → T (le (wholeNumber t n) r)
+
+-- r is a float, and exactly a whole number, with the sign of ±m * 2 ^ e. Of the whole numbers that are not below ±m * 2 ^ e it is the smallest.
+pub record IsCeiling (s : Bool) (m : ℕ) (e : ℤ) (r : Float) : Type 0 where
+  pub size : ℕ
+  pub exact : HasValue r s size 1
+  pub of-format : T (fits binary64 r)
+  pub not-below : T (le (fin s m e) r)
+  pub smallest : (t : Bool) (n : ℕ) → T (le (fin s m e) (wholeNumber t n)) → T (le r (wholeNumber t n))
 
 unfoldable pub absOf : Float → Float
 absOf nan = nan

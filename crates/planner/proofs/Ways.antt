@@ -19,11 +19,12 @@ use Rattle.build.specs.Outcome as build
 use Rattle.cone.specs.declared.ViewCone.{ViewCone}
 use Rattle.cone.specs.Cone.{fullOf}
 use Rattle.room.specs.declared.Rooms.{Rooms}
-use Rattle.visibility.specs.declared.Visibility.{Visibility}
-use Rattle.visibility.specs.declared.Shown.{Shown}
-use Rattle.visibility.specs.declared.Visibility.the-variants as visibility
-use Rattle.visibility.specs.Drawing.{tenth}
-use Rattle.visibility.specs.Outcome.{Lent, Outcome, out, outcome}
+use Rattle.stages.specs.declared.Visibility.{Visibility}
+use Rattle.stages.specs.declared.Shown.{Shown}
+use Rattle.stages.specs.declared.Visibility.the-variants as visibility
+use Rattle.visibility.specs.Beside.{tenth}
+use Rattle.view.specs.Outcome.{Lent, Outcome, out}
+use Rattle.visibility.specs.Outcome.{outcome}
 use Rattle.visibility.proofs.Ids.{Distinct, visible-named}
 use Rattle.wkt.specs.declared.Input.{Input}
 use Rattle.wkt.specs.declared.Input.the-variants as input

@@ -14,10 +14,11 @@ use Rattle.build.specs.declared.Made.{Made}
 use Rattle.build.specs.declared.Made.the-variants as made
 use Rattle.build.specs.Outcome as build
 use Rattle.cone.specs.Cone.{fullOf}
-use Rattle.visibility.specs.declared.Visibility.{Visibility}
-use Rattle.visibility.specs.declared.Visibility.the-variants as visibility
-use Rattle.visibility.specs.Drawing.{tenth}
-use Rattle.visibility.specs.Outcome.{Outcome, outcome}
+use Rattle.stages.specs.declared.Visibility.{Visibility}
+use Rattle.stages.specs.declared.Visibility.the-variants as visibility
+use Rattle.visibility.specs.Beside.{tenth}
+use Rattle.view.specs.Outcome.{Outcome}
+use Rattle.visibility.specs.Outcome.{outcome}
 use Rattle.wkt.specs.declared.Input.{Input}
 use Rattle.wkt.specs.declared.Input.the-variants as input
 use Rattle.wkt.specs.Grammar.{Point}

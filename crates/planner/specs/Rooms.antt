@@ -7,7 +7,7 @@ use Rattle.num.specs.Ops.{zeroF}
 use Rattle.site.specs.Tables.{Tables, tables}
 use Rattle.room.specs.declared.Rooms.{Rooms}
 use Rattle.room.specs.Layout.{floatsFor, wordsFor}
-use Rattle.visibility.specs.Outcome.{Lent, lent}
+use Rattle.view.specs.Outcome.{Lent, lent}
 
 unfoldable pub rooms : Rooms
 rooms = record { ids = 64; edges = 128; events = 256; corners = 128; samples = 512; starts = 257; refs = 1024; owners = 256; seen = 32 }

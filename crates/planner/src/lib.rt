@@ -7,7 +7,7 @@ use cone::ViewCone;
 use geom::Vec2;
 use room::Rooms;
 use site::Site;
-use visibility::Visibility;
+use stages::Visibility;
 use wkt::Input;
 ghost use mathlib.Core.Path.{_≡_};
 ghost use Prim.Native.Nat.{_*_, _≤_, _<_, min};

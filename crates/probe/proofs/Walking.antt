@@ -13,7 +13,7 @@ use Rattle.walk.specs.declared.Place.{Place}
 use Rattle.walk.specs.declared.Start.the-variants.{From, Miss}
 use Rattle.walk.specs.declared.Step.the-variants.{Next, Stop}
 use Rattle.walk.specs.Steps.{cellNumber, stepOf, left, OnGrid}
-use Rattle.walk.specs.Clipping.{startOf}
+use Rattle.walk.specs.Clipping.{rayStart}
 use Rattle.walk.specs.Tours.{rayTour, rayCells, passerBy}
 use Rattle.walk.proofs.StepLaws.{moves}
 use Rattle.walk.proofs.TourLaws.{tour-next, tour-end}
@@ -67,19 +67,19 @@ module _ (k : Course) (p₀ p : Place) (out₀ out : List ℕ) (n c m : ℕ) (ou
 
 -- ---- the ray's cells are those of the walk from its first place; a ray that misses the grid has none
 module _ (g : Grid) (o d : Vec2) (len : Float) where
-  along-ray : (k : Course) (p : Place) → startOf g o d len ≡ From k p → lows (rayCells passerBy g o d len tt) ≡ cellsAlong k p
+  along-ray : (k : Course) (p : Place) → rayStart g o d len ≡ From k p → lows (rayCells passerBy g o d len tt) ≡ cellsAlong k p
   unfolding rayCells rayTour cellsAlong
   along-ray k p e = rw e
 
-  pub ray-out : (k : Course) (p : Place) (out out' : List ℕ) → startOf g o d len ≡ From k p → out' ≡ sets out 0 (cellsAlong k p) → out' ≡ sets out 0 (lows (rayCells passerBy g o d len tt))
+  pub ray-out : (k : Course) (p : Place) (out out' : List ℕ) → rayStart g o d len ≡ From k p → out' ≡ sets out 0 (cellsAlong k p) → out' ≡ sets out 0 (lows (rayCells passerBy g o d len tt))
   ray-out k p out out' e h = rw (along-ray k p e) h
 
-  pub ray-count : (k : Course) (p : Place) (r : ℕ) → startOf g o d len ≡ From k p → r ≡ length (cellsAlong k p) → r ≡ length (rayCells passerBy g o d len tt)
+  pub ray-count : (k : Course) (p : Place) (r : ℕ) → rayStart g o d len ≡ From k p → r ≡ length (cellsAlong k p) → r ≡ length (rayCells passerBy g o d len tt)
   ray-count k p r e h = h ∙ ap length (sym (along-ray k p e)) ∙ length-map (rayCells passerBy g o d len tt) low
 
-  pub miss : startOf g o d len ≡ Miss → rayCells passerBy g o d len tt ≡ []
+  pub miss : rayStart g o d len ≡ Miss → rayCells passerBy g o d len tt ≡ []
   unfolding rayCells rayTour
   miss e = rw e
 
-  pub miss-out : (out : List ℕ) → startOf g o d len ≡ Miss → out ≡ sets out 0 (lows (rayCells passerBy g o d len tt))
+  pub miss-out : (out : List ℕ) → rayStart g o d len ≡ Miss → out ≡ sets out 0 (lows (rayCells passerBy g o d len tt))
   miss-out out e = rw (miss e)

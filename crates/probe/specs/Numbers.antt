@@ -1,4 +1,4 @@
--- The numbers that stand for grids, ranges and answers in the probe. Definitions only.
+-- The numbers that stand for grids, ranges and answers in the probe. A query's are those of crate `grid`. Definitions only.
 use mathlib.Core.Path.{_≡_}
 use mathlib.Core.List.{List, [], _∷_, map}
 use Prim.Native.Nat.{ℕ, _%_}
@@ -7,9 +7,6 @@ use Rattle.geom.specs.Vec.{vec}
 use Rattle.grid.specs.declared.Grid.{Grid}
 use Rattle.grid.specs.declared.Range.{Range}
 use Rattle.grid.specs.declared.Range.the-variants.{Cells, Nothing}
-use Rattle.grid.specs.declared.Listing.{Listing}
-use Rattle.grid.specs.declared.Listing.the-variants as listing
-use Rattle.grid.specs.Query as query
 use Rattle.tables.specs.declared.Built.{Built}
 use Rattle.tables.specs.declared.Built.the-variants as built
 use Rattle.tables.specs.Tables as tables
@@ -46,23 +43,6 @@ pub record Builds (o : tables.Outcome) (status : ℕ) (starts items : List ℕ) 
   pub starts-are : starts ≡ o .starts
   pub items-are : items ≡ o .items
   pub count-is : count ≡ builtCount (o .answer)
-
--- ---- a query answers 0 with how many ids it wrote and entries it read, or the refusal's number and zeros
-abbrev pub listedStatus : Listing → ℕ
-listedStatus (listing.Listed written read) = 0
-listedStatus (listing.Refused k) = k
-
-abbrev pub listedCounts : Listing → List ℕ
-listedCounts (listing.Listed written read) = written ∷ read ∷ []
-listedCounts (listing.Refused k) = 0 ∷ 0 ∷ []
-
--- every part of what a query does
-pub record Lists (o : query.Outcome) (status : ℕ) (marks : List ℕ) (epoch : ℕ) (ids counts : List ℕ) : Type 0 where
-  pub status-is : status ≡ listedStatus (o .answer)
-  pub marks-are : marks ≡ o .marks
-  pub epoch-is : epoch ≡ o .epoch
-  pub ids-are : ids ≡ o .ids
-  pub counts-are : counts ≡ listedCounts (o .answer)
 
 -- ---- cells as 32-bit numbers: `as u32`. The grid of a site has at most 1,048,576 cells, so that it loses nothing there
 abbrev pub low : ℕ → ℕ

@@ -16,13 +16,14 @@ ghost use Rattle.geom.specs.Vec.{vec};
 ghost use Rattle.grid.specs.Boxes.{boxAt};
 ghost use Rattle.grid.specs.Range.{columnsOf, rangeOf};
 ghost use Rattle.grid.specs.Stamps.{epochAfter, marksBegun};
-ghost use Rattle.grid.specs.Entries.{Sound};
+ghost use Rattle.grid.specs.Entries.{SoundGrid};
 ghost use Rattle.grid.specs.Query.{outcome, itemsAt};
+ghost use Rattle.grid.specs.Numbers.{Lists};
 ghost use Rattle.tables.specs.Tables.{Buildable};
 ghost use Rattle.tables.specs.Tables as tables;
 ghost use Rattle.walk.specs.Steps.{OnGrid};
 ghost use Rattle.walk.specs.Tours.{rayCells, passerBy};
-ghost use Rattle.probe.specs.Numbers.{gridOf, found, fourOf, Builds, Lists, low, lows, cellsAlong};
+ghost use Rattle.probe.specs.Numbers.{gridOf, found, fourOf, Builds, low, lows, cellsAlong};
 
 #[no_mangle]
 pub extern "C" fn bf_inner_columns(extent: f64, cell: f64) -> u64
@@ -95,7 +96,7 @@ pub extern "C" fn bf_inner_box_query(
     ids: &mut [u32],
     counts: &mut [u64; 2],
 ) -> u32
-    requires { ⌜ Sound cols rows (now starts) (now items) ⌝ }
+    requires { ⌜ SoundGrid cols rows (now starts) (now items) ⌝ }
     ensures { λ r. ⌜ Lists (outcome (gridOf gx gy cell inv cols rows) (boxAt (now (b .entry)) 0) (now (starts .entry)) (now (items .entry)) (now (marks .entry)) (now (epoch .entry)) (length (now (ids .entry))))
         r (now (marks .exit)) (now (epoch .exit)) (now (ids .exit)) (now (counts .exit)) ⌝ }
 {

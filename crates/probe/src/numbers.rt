@@ -7,7 +7,8 @@ use grid::Range;
 use tables::Built;
 ghost use mathlib.Core.Path.{_≡_};
 ghost use Rattle.grid.specs.Boxes.{boxAt};
-ghost use Rattle.probe.specs.Numbers.{gridOf, found, fourOf, builtStatus, builtCount, listedStatus, listedCounts};
+ghost use Rattle.grid.specs.Numbers.{listedStatus, listedCounts};
+ghost use Rattle.probe.specs.Numbers.{gridOf, found, fourOf, builtStatus, builtCount};
 
 pub fn grid_of(gx: f64, gy: f64, cell: f64, inv: f64, cols: u32, rows: u32) -> Grid
     ensures { λ r. ⌜ r ≡ gridOf gx gy cell inv cols rows ⌝ }

@@ -1,4 +1,5 @@
--- A RANDOM SITE THAT IS MADE IS SOUND, AND A REFUSAL LEAVES EVERY TABLE AS IT WAS: both hold of the building, and what is refused before it writes nothing.
+-- A RANDOM SITE THAT IS MADE IS ONE THAT BUILDING MADE (`random-built`), SO IT IS SOUND, AND A REFUSAL LEAVES EVERY TABLE AS IT WAS: what is refused before the
+-- building writes nothing.
 -- Assumes nothing.
 use mathlib.Core.Path.{_≡_}
 use mathlib.Core.Bool.{Bool, true, false, _&&_, cond}
@@ -32,14 +33,17 @@ module _ (lent left : Tables) (o : building.Outcome) where
   left-alone n false false d f = d .leaves
 
 module _ (config : SceneConfig) (lent left : Tables) where
-  abbrev built : building.Outcome
+  -- the building of what is drawn
+  abbrev pub built : building.Outcome
   built = building.outcome (config .width) (config .height) (pointsOf config) (lensOf config) lent
 
-  pub random-sound : (s : Site) → building.Does (outcome config lent) (made.Site s) left → soundOf s left ≡ true
+  -- a random site is a site that building made
+  pub random-built : (s : Site) → building.Does (outcome config lent) (made.Site s) left → building.Does built (made.Site s) left
   unfolding outcome
-  random-sound s d =
-      built-sound (config .width) (config .height) (pointsOf config) (lensOf config) lent left s
-      (by-building lent left built (ltb 4096 (config .«polygon_count»)) (inRandomSize (config .width) && inRandomSize (config .height)) s d)
+  random-built s d = by-building lent left built (ltb 4096 (config .«polygon_count»)) (inRandomSize (config .width) && inRandomSize (config .height)) s d
+
+  pub random-sound : (s : Site) → building.Does (outcome config lent) (made.Site s) left → soundOf s left ≡ true
+  random-sound s d = built-sound (config .width) (config .height) (pointsOf config) (lensOf config) lent left s (random-built s d)
 
   pub untouched : (n : ℕ) → building.Does (outcome config lent) (made.Refused n) left → left ≡ lent
   unfolding outcome

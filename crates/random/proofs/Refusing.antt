@@ -1,5 +1,5 @@
--- WHY A RANDOM SITE IS REFUSED: as 2 for too many polygons, as 1 for a width or a height out of its domain, and by the building only as 4 or 5. What is drawn is never
--- too many points, always adds up, and lies in the domain (document 01, "Refusal numbers"; order 2, 1, 4, 5). Assumes nothing.
+-- BUILDING REFUSES WHAT IS DRAWN ONLY AS 4 OR 5: it is never too many points, always adds up, and lies in the domain (document 01, "Refusal numbers"). When a random
+-- site is refused is RefusedWhen.antt. Assumes nothing.
 use mathlib.Core.Path.{_≡_, sym, ap, _∙_}
 use mathlib.Core.Bool.{true, false, _&&_}
 use Prim.Native.Nat.{ℕ, zero, suc, _*_, _≤_}
@@ -26,7 +26,7 @@ use Rattle.build.specs.Outcome.{planBy, planOf}
 use Rattle.build.specs.Outcome as building
 use Rattle.random.specs.declared.SceneConfig.{SceneConfig}
 use Rattle.random.specs.Draws.{lenAt, pointsOf, lensOf}
-use Rattle.random.specs.Outcome.{most, inRandomSize, outcome}
+use Rattle.random.specs.Outcome.{most, inRandomSize}
 use Rattle.random.proofs.Drawing.{len-most}
 use Rattle.random.proofs.Ways.{length-points, length-lens}
 use Rattle.random.proofs.Inside.{points-inside}
@@ -84,11 +84,3 @@ module _ (config : SceneConfig) (sizes : (inRandomSize (config .width) && inRand
       ≡ planBy (config .width) (config .height) (gridOf (config .width) (config .height) (pointsOf config) (lensOf config)) (pointsOf config) (lensOf config) (building.roomsOf lent)
   unfolding planOf
   built-by few lent = rw (never-many config few, adds config, all-in)
-
-  -- so the whole outcome is that of a plan that refuses as 4, as 5, or not at all
-  pub answered : config .«polygon_count» ≤ 4096 → (lent : Tables)
-      → outcome config lent
-      ≡ building.outcomeBy (planBy (config .width) (config .height) (gridOf (config .width) (config .height) (pointsOf config) (lensOf config)) (pointsOf config) (lensOf config) (building.roomsOf lent))
-      (pointsOf config) (lensOf config) lent
-  unfolding outcome building.outcome
-  answered few lent = rw (le-ltb 4096 (config .«polygon_count») few, sizes, built-by few lent)

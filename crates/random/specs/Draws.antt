@@ -1,4 +1,4 @@
--- The polygons of a random site, as the Rust draws them (`Scene::random` of `scene.rs`, lines 157 to 186): for each polygon its count of points, its centre, its
+-- The polygons of a random site, as the Rust draws them (`Scene::random` of `scene.rs`, lines 171 to 196): for each polygon its count of points, its centre, its
 -- base radius, then a fraction for each point, then a colour, which is dropped. One generator goes through all of it, so every draw counts. One rounding for
 -- each operation, in the Rust's order. Definitions only.
 use Prim.Native.Nat.{ℕ, zero, suc, _≤_}

@@ -1,7 +1,7 @@
-// Random sites: `SceneConfig` and `Scene::random` of the Rust's `scene.rs` (lines 54 to 75 and 157 to 186).
+// Random sites: `SceneConfig` and `Scene::random` of the Rust's `scene.rs` (lines 53 to 78 and 171 to 196).
 // The points are drawn into two lists of the function's own, as long as the largest random site needs them, and then built as any other
 // site: so nothing is written into a lent table before the building has decided.
-// Meanings: specs/Draws.antt (what is drawn), specs/Outcome.antt (answer and tables).
+// Meanings: specs/Draws.antt (what is drawn), specs/Outcome.antt (answer and tables), specs/Checks.antt (when it refuses).
 use build::Made;
 use geom::Vec2;
 use rng::Rng;

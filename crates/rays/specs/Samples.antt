@@ -1,7 +1,7 @@
 -- The rays of an outline: one on each side of every event and an exact one at a sector's side, in order of angle, each cast in turn
--- (`visibility.rs`, lines 376 to 415). Document 01: "Each sample holds its angle, event, offset and that answer"; samples are cast in turn.
+-- (`visibility.rs`, lines 380 to 417). Document 01: "Each sample holds its angle, event, offset and that answer"; samples are cast in turn.
 -- An offset is 0 before the event, 1 at it and 2 after it: the Rust's -1, 0 and 1. Definitions only.
-use mathlib.Core.Bool.{Bool, true, false, cond}
+use mathlib.Core.Bool.{Bool, true, cond}
 use mathlib.Core.List.{List, [], _++_, map}
 use Prim.Native.Nat.{ℕ}
 use lib.Dec.{eqb}

@@ -1,4 +1,4 @@
-// The rays of an outline: the samples of the merged events, their casts and their order (`visibility.rs`, lines 376 to 415).
+// The rays of an outline: the samples of the merged events, their casts and their order (`visibility.rs`, lines 380 to 417).
 // A list that is full is counted on without writing. Meanings: specs/Samples.antt (the samples), specs/Stands.antt (where they stand).
 use cone::View;
 use geom::Vec2;

@@ -2,7 +2,7 @@
 // There is room for 64 cells, 64 numbers of boxes, 64 items, 16 marks and 64 ids; over that is no answer. The tables of 504 are built first, as 503 builds them.
 ghost use mathlib.Core.Path.{_≡_};
 ghost use Prim.Native.Nat.{_*_, _<_};
-ghost use Rattle.grid.specs.Entries.{Sound};
+ghost use Rattle.grid.specs.Entries.{SoundGrid};
 ghost use Rattle.tables.specs.Tables.{Buildable};
 ghost use Rattle.probe.specs.Numbers.{gridOf};
 use crate::answer;
@@ -62,7 +62,7 @@ fn build_tables(
     count: &mut u64,
 ) -> u32
     requires { ⌜ Buildable (gridOf gx gy cell inv cols rows) (now boxes) polygons ⌝ }
-    ensures { λ r. ⌜ (r ≡ 0 → Sound cols rows (now (starts .exit)) (now (items .exit))) ⌝ }
+    ensures { λ r. ⌜ (r ≡ 0 → SoundGrid cols rows (now (starts .exit)) (now (items .exit))) ⌝ }
 {
     probe::bf_inner_build(
         gx,
@@ -88,7 +88,7 @@ fn build(
     items: &mut [u32],
     count: &mut u64,
 ) -> u32
-    ensures { λ r. ⌜ (r ≡ 0 → Sound cols rows (now (starts .exit)) (now (items .exit))) ⌝ }
+    ensures { λ r. ⌜ (r ≡ 0 → SoundGrid cols rows (now (starts .exit)) (now (items .exit))) ⌝ }
 {
     if cols == 0 {
         return 9;
@@ -162,7 +162,7 @@ fn query(
     ids: &mut [u32],
     out: &mut [u64],
 ) -> usize
-    requires { ⌜ Sound cols rows (now starts) (now items) ⌝ }
+    requires { ⌜ SoundGrid cols rows (now starts) (now items) ⌝ }
     requires { ⌜ first < 128 ⌝ }
 {
     let b = [
@@ -198,7 +198,7 @@ fn query(
 
 // The question of 504 stands behind the boxes: four numbers, the epoch, the marks and the room for ids.
 fn asked(w: &[u64], cols: u32, rows: u32, starts: &[u32], items: &[u32], out: &mut [u64]) -> usize
-    requires { ⌜ Sound cols rows (now starts) (now items) ⌝ }
+    requires { ⌜ SoundGrid cols rows (now starts) (now items) ⌝ }
 {
     let n = word(w, 7);
     if 64 < n {

@@ -1,4 +1,4 @@
--- SplitMix64 as `Rng` of scene.rs has it, lines 365 to 397. The published texts are Steele, Lea and Flood, "Fast splittable pseudorandom number generators"
+-- SplitMix64 as `Rng` of scene.rs has it, lines 365 to 396. The published texts are Steele, Lea and Flood, "Fast splittable pseudorandom number generators"
 -- (OOPSLA 2014), and Vigna's splitmix64.c (2015), which has the same three constants and the same three shifts.
 -- A word is a number below 2 ^ 64. Its sums and products are taken modulo 2 ^ 64, `z >> k` is z / 2 ^ k, and `^` is the exclusive or of binary digits, `bitXor`.
 use Prim.Native.Nat.{ℕ, _+_, _-_, _*_, _/_, _%_, _^_}

@@ -1,4 +1,4 @@
-// `Rng` of scene.rs, lines 365 to 397: SplitMix64, tiny, fast and the same on every platform. A draw hands back the
+// `Rng` of scene.rs, lines 365 to 396: SplitMix64, tiny, fast and the same on every platform. A draw hands back the
 // generator as it is afterwards and what was drawn; specs/Rng.antt says which.
 ghost use mathlib.Core.Path.{_≡_};
 ghost use Prim.Native.Nat.{_*_, _/_, _%_, _^_};

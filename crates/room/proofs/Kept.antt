@@ -1,7 +1,7 @@
 -- What stands in the room stays where its stretches stay. A stretch stays where another one is all that was written (`only-part` of the crate
 -- `lists`). Assumes nothing.
 use mathlib.Core.Path.{_≡_, refl}
-use mathlib.Core.Bool.{Bool, true, false, _||_}
+use mathlib.Core.Bool.{false}
 use mathlib.Core.List.{List}
 use Prim.Native.Nat.{ℕ, _+_, _*_, _≤_, _<_}
 use native.Mathlib.Omega.{arith}
@@ -10,6 +10,7 @@ use lib.Ieee.{Float, nan}
 use lib.Dec.{ltb}
 use borrow.Author.Tests.{ltb-false}
 use Rattle.lists.specs.Parts.{part}
+use Rattle.lists.proofs.AllTo.{neither}
 use Rattle.lists.proofs.Only.{part-getD}
 use Rattle.lists.proofs.Joined.{listed-ext}
 use Rattle.room.specs.declared.Rooms.{Rooms}
@@ -89,10 +90,6 @@ module _ (k : Rooms) (f f' : List Float) (w w' : List ℕ) where
   samples-kept n h p q = listed-ext (sampleAt k f' w') (sampleAt k f w) n (λ i l. sample-kept i (omega arith) p q)
 
 -- ---- what is not too short is long enough
-
-neither : (x y : Bool) → (x || y) ≡ false → (x ≡ false) × (y ≡ false)
-neither true y e = (e, (cc))
-neither false y e = (refl, e)
 
 pub short-fit : (k : Rooms) (floats words : ℕ) → isShort k floats words ≡ false → Fit k floats words
 short-fit k floats words e =

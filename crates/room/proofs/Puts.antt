@@ -23,7 +23,7 @@ use Rattle.room.specs.declared.Event.{Event}
 use Rattle.room.specs.declared.Merged.{Merged}
 use Rattle.room.specs.declared.Sample.{Sample}
 use Rattle.room.specs.Layout.{edgesF, eventsF, mergedF, samplesF, distancesF, dirsF, floatsFor, edgesW, nearestW, eventsW, turnsW, mergedW, cornersW, samplesW, orderW}
-use Rattle.room.specs.Records.{sixOf, tagOf, distanceOf, numberOf, castOf, edgeAt, eventAt, mergedAt, sampleAt, dirAt, withHit, EdgePut, EventPut, MergedPut, SamplePut, HitPut, DirPut}
+use Rattle.room.specs.Records.{sixOf, tagOf, distanceOf, numberOf, castFrom, edgeAt, eventAt, mergedAt, sampleAt, dirAt, withHit, EdgePut, EventPut, MergedPut, SamplePut, HitPut, DirPut}
 
 -- a number and another one: below it or past it
 apart : (j i : ℕ) → (j ≡ i → ⊥) → (j < i) ⊎ (i < j)
@@ -33,7 +33,7 @@ bit-back : (b : Bool) → eqb (bit b) 1 ≡ b
 bit-back true = refl
 bit-back false = refl
 
-cast-back : (h : Cast) → castOf (tagOf h) (distanceOf h) (numberOf h) ≡ h
+cast-back : (h : Cast) → castFrom (tagOf h) (distanceOf h) (numberOf h) ≡ h
 cast-back (Hit t e) = refl
 cast-back Miss = refl
 

@@ -1,4 +1,4 @@
--- What stands in the room: the records of `visibility.rs` (`Event`, `Sample`, `LocalEdge`, lines 213 to 245), each read from its numbers, and
+-- What stands in the room: the records of `visibility.rs` (`Event`, `Sample`, `LocalEdge`, lines 213 to 244), each read from its numbers, and
 -- what a write of one does. A bool is 1 or 0. Document 01: "Each sample holds its angle, event, offset and that answer".
 -- Definitions only.
 use mathlib.Core.Path.{_≡_}
@@ -35,8 +35,8 @@ abbrev pub numberOf : Cast → ℕ
 numberOf (Hit t e) = e
 numberOf Miss = 0
 
-abbrev pub castOf : ℕ → Float → ℕ → Cast
-castOf tag t e = cond (eqb tag 1) (Hit t e) Miss
+abbrev pub castFrom : ℕ → Float → ℕ → Cast
+castFrom tag t e = cond (eqb tag 1) (Hit t e) Miss
 
 -- ---- the records
 -- an edge's own numbers, in their order
@@ -77,7 +77,7 @@ sampleAt k floats words i = record {
   angle = getD floats (samplesF k + i) nan;
   event = getD words (samplesW k + 4 * i) 0;
   offset = getD words (samplesW k + 4 * i + 1) 0;
-  hit = castOf (getD words (samplesW k + 4 * i + 2) 0) (getD floats (distancesF k + i) nan) (getD words (samplesW k + 4 * i + 3) 0);
+  hit = castFrom (getD words (samplesW k + 4 * i + 2) 0) (getD floats (distancesF k + i) nan) (getD words (samplesW k + 4 * i + 3) 0);
 }
 
 -- the direction of the sample i

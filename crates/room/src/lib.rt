@@ -1,7 +1,7 @@
 // The work room of an outline: the entries that its caller states, where each list stands in the two lent slices, and the records that stand
 // there, read and written by value. Document 01, "Refusal numbers" ("The caller of an outline states the entries allowed to each work list")
 // and "What must change shape" ("one lent work room is cut up, and each stage writes its own stretch of it"); the records are those of
-// `visibility.rs`, lines 213 to 245. The table of numbers for each entry is docs/ROOM.md.
+// `visibility.rs`, lines 213 to 244. The table of numbers for each entry is docs/ROOM.md.
 // An entry's number is a `u32`, so no place of it can pass a `usize`. Every read is total: past the end a number is 0 and a float is NaN.
 // Meanings: specs/Layout.antt (where the lists stand), specs/Records.antt (what stands there).
 use geom::Vec2;
@@ -12,7 +12,7 @@ ghost use Prim.Native.Nat.{_≤_, _<_};
 ghost use lib.ListN.{length};
 ghost use Rattle.lists.specs.Lists.{bit};
 ghost use Rattle.room.specs.Layout.{edgesF, eventsF, mergedF, samplesF, distancesF, dirsF, floatsFor, edgesW, nearestW, eventsW, turnsW, mergedW, cornersW, startsW, refsW, samplesW, orderW, seenW, wordsFor, isShort, Place};
-ghost use Rattle.room.specs.Records.{sixOf, tagOf, distanceOf, numberOf, castOf, edgeAt, eventAt, mergedAt, sampleAt, dirAt, EdgePut, EventPut, MergedPut, SamplePut, HitPut, DirPut};
+ghost use Rattle.room.specs.Records.{sixOf, tagOf, distanceOf, numberOf, castFrom, edgeAt, eventAt, mergedAt, sampleAt, dirAt, EdgePut, EventPut, MergedPut, SamplePut, HitPut, DirPut};
 
 // How many entries the caller allows to each list: ids of the box query, front edges, unmerged events, kept-aside corners, samples, bucket
 // starts, angular references, owners, and corners seen at one event.
@@ -242,8 +242,8 @@ fn number_of(h: Cast) -> u32
     }
 }
 
-fn cast_of(tag: u32, t: f64, e: u32) -> Cast
-    ensures { λ r. ⌜ r ≡ castOf tag t e ⌝ }
+fn cast_from(tag: u32, t: f64, e: u32) -> Cast
+    ensures { λ r. ⌜ r ≡ castFrom tag t e ⌝ }
 {
     if tag == 1 {
         return Cast::Hit(t, e);
@@ -308,7 +308,7 @@ pub fn sample_at(k: Rooms, floats: &[f64], words: &[u32], i: u32) -> Sample
 {
     let n = lists::wide(i);
     let at = samples_w(k) + 4 * n;
-    let hit = cast_of(
+    let hit = cast_from(
         lists::at32(words, at + 2),
         lists::at64(floats, distances_f(k) + n),
         lists::at32(words, at + 3),

@@ -34,7 +34,7 @@ use Rattle.site.specs.declared.Site.{Site}
 use Rattle.site.specs.Tables.{Tables, tables}
 use Rattle.site.specs.Domain.{pointInDomain, boxInDomain, loadOf, loadPointOf, loadBoxOf}
 use Rattle.site.specs.Soundness.{tablesLong, countsWithin, headInDomain, pointsInDomain, cellRight, sameBox, boxRight, boxesRight, cellsWithin, neverFall, startsRight, itemRight, itemsRight, partsInside, owned, allOwned, owns, allOwn, soundOf}
-use Rattle.walk.specs.Clipping.{clipOf, clipBoxOf, indexOf, axisOf, setOutOf, startOf}
+use Rattle.walk.specs.Clipping.{clipOf, clipBoxOf, indexOf, axisOf, setOutOf, rayStart}
 use Rattle.walk.specs.Steps.{cellNumber, exitOf, movedTo, stepOf, left}
 use Rattle.walk.specs.Tours.{tourIn, tour, rayTour}
 use Rattle.sight.specs.Slabs.{rayHitsAabbOf}
@@ -63,13 +63,13 @@ module _ (w h : Float) (given : List Float) (lens : List ℕ) (room : Tables) (g
   filled =
       tables (padded zeroF (length (room .points)) (pointsOf given lens)) (padded zeroF (length (room .boxes)) (boxesTable given lens))
       (padded 0 (length (room .polygons)) (polygonsTable lens)) (padded 0 (length (room .owners)) (ownersTable lens))
-      (padded 0 (length (room .starts)) (listed (tabled.startOf (λ _. span) (length lens) (g .cols)) (g .cols * g .rows + 1)))
+      (padded 0 (length (room .starts)) (listed (tabled.cellStart (λ _. span) (length lens) (g .cols)) (g .cols * g .rows + 1)))
       (padded 0 (length (room .items)) items)
 
   items-are : tabled.itemsOf (spanIn g given lens) (length lens) (g .cols) (g .cols * g .rows) ≡ items
   items-are = items-ext (spanIn g given lens) (λ _. span) (length lens) (g .cols) spans (g .cols * g .rows)
 
-  starts-are : listed (tabled.startOf (spanIn g given lens) (length lens) (g .cols)) (g .cols * g .rows + 1) ≡ listed (tabled.startOf (λ _. span) (length lens) (g .cols)) (g .cols * g .rows + 1)
+  starts-are : listed (tabled.cellStart (spanIn g given lens) (length lens) (g .cols)) (g .cols * g .rows + 1) ≡ listed (tabled.cellStart (λ _. span) (length lens) (g .cols)) (g .cols * g .rows + 1)
   starts-are = starts-ext (spanIn g given lens) (λ _. span) (length lens) (g .cols) spans (g .cols * g .rows + 1)
 
   count-is : itemCount g given lens ≡ length items
@@ -165,7 +165,7 @@ unfolding
     rng.rangeOf boxFrom boxAt stamped firsts cellsFrom rowsFrom entriesIn query.outcomeBy query.outcome query.itemsBy query.itemsAt
     pointInDomain boxInDomain loadPointOf loadBoxOf
     tablesLong countsWithin headInDomain pointsInDomain cellRight sameBox boxRight boxesRight cellsWithin neverFall startsRight itemRight itemsRight partsInside owned allOwned owns allOwn soundOf
-    clipOf clipBoxOf indexOf axisOf setOutOf startOf cellNumber exitOf movedTo stepOf left tourIn tour rayTour
+    clipOf clipBoxOf indexOf axisOf setOutOf rayStart cellNumber exitOf movedTo stepOf left tourIn tour rayTour
     rayHitsAabbOf holding.holdsPoint holding.higherOf holding.highest holding.polygonAtOf
     casting.edgeNumber casting.nearerOf casting.edgesUpTo casting.edgesMet casting.pushed casting.itemSeen casting.itemsSeen casting.sightingOf casting.castRayOf
     asked rayInDomain foundFrom polygonAtOf castRayOf polygonsNearOf

@@ -12,8 +12,8 @@ use scene::Found;
 use scene::Look;
 use site::Cast;
 use site::Site;
-use visibility::Shown;
-use visibility::Visibility;
+use stages::Shown;
+use stages::Visibility;
 
 // ---- printing
 

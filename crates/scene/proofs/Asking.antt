@@ -23,6 +23,11 @@ module _ (site : Site) (t : Tables) (inside : Bool) where
   unfolding admitOf asked
   admitted-sound n e z = sound-by _ inside refl n z e
 
+  -- what is let through is the answer
+  pub answered : {A : Type 0} (refuse : ℕ → A) (a : A) → soundOf site t ≡ true → inside ≡ true → asked refuse site t inside a ≡ a
+  unfolding asked
+  answered refuse a s i = rw (s, i)
+
   module _ {A : Type 0} (refuse : ℕ → A) (n : ℕ) where
     refused-by : (s b : Bool) (a : A) → n ≡ cond s (cond b 0 1) 6 → (n ≡ 0 → ⊥) → refuse n ≡ cond s (cond b a (refuse 1)) (refuse 6)
     refused-by true true a e h = absurd (h e)

@@ -6,4 +6,5 @@ pub mod Refusals
 pub mod Near
 pub mod Seen
 pub mod Parts
+pub mod NeverSix
 pub mod BuiltSites

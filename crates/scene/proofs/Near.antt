@@ -1,8 +1,8 @@
 -- THE BOX QUERY OF A SITE, demand 3: over sound tables, with a mark for each polygon and fresh stamps, no id is listed twice, an id is listed exactly where it is an
 -- entry of a cell that the box covers, and the entries read are those that these cells hold (`Fair` of `grid`). Refused or not, the stamps stay fresh, so that the
 -- next query is answered alike. Assumes nothing.
-use Prim.Native.Nat.{ℕ, _*_, _^_, _≤_, _<_}
-use mathlib.Core.Path.{_≡_, refl, sym}
+use Prim.Native.Nat.{ℕ, _*_, _≤_}
+use mathlib.Core.Path.{_≡_, refl}
 use mathlib.Core.Bool.{Bool, true, false, cond}
 use mathlib.Core.List.{List}
 use native.Mathlib.Nat.{mul-le-mul-left, mul-le-mul-right}
@@ -26,7 +26,7 @@ use Rattle.site.specs.Soundness.{soundOf, Sound}
 use Rattle.site.proofs.SoundLaws.{sound, grid-sound, grid-named}
 use Rattle.scene.specs.Asked.{asked}
 use Rattle.scene.specs.Stamping.{kept, polygonsNearOf}
-use Rattle.scene.proofs.Refusals.{answered}
+use Rattle.scene.proofs.Asking.{answered}
 
 -- the range of a box lies in a sound site's grid
 in-grid : (site : Site) (t : Tables) (b : Aabb) (r : CellRange) → Sound site t → rangeOf (site .grid) b ≡ Cells r → InGrid (site .grid) r

@@ -5,6 +5,8 @@ use mathlib.Core.Path.{_≡_, sym, _∙_}
 use mathlib.Core.List.{List}
 use Rattle.grid.specs.declared.Listing.{Listing}
 use Rattle.grid.specs.Query.{Outcome, Is}
+use Rattle.grid.proofs.Only as Grid
+use Rattle.grid.proofs.Only.{SameListing}
 use Rattle.scene.specs.Stamping.{NewOutcome, NewIs}
 use Rattle.scene.specs.declared.Stamps.{Stamps}
 
@@ -22,17 +24,6 @@ pub only-new : (o : NewOutcome) (a b : Stamps) (m n : List ℕ) (d e : ℕ) → 
 only-new o a b m n d e h k =
     record { answers = only _ a b (h .answer-is) (k .answer-is); marks = only _ m n (h .marks-are) (k .marks-are); epochs = only _ d e (h .epoch-is) (k .epoch-is) }
 
--- `polygons_near`
-pub record SameListing (a b : Listing) (m n : List ℕ) (d e : ℕ) (i j : List ℕ) : Type 0 where
-  pub answers : a ≡ b
-  pub marks : m ≡ n
-  pub epochs : d ≡ e
-  pub ids : i ≡ j
-
+-- `polygons_near` promises what the grid's box query does
 pub only-listing : (o : Outcome) (a b : Listing) (m n : List ℕ) (d e : ℕ) (i j : List ℕ) → Is o a m d i → Is o b n e j → SameListing a b m n d e i j
-only-listing o a b m n d e i j h k = record {
-  answers = only _ a b (h .answer-is) (k .answer-is);
-  marks = only _ m n (h .marks-are) (k .marks-are);
-  epochs = only _ d e (h .epoch-is) (k .epoch-is);
-  ids = only _ i j (h .ids-are) (k .ids-are);
-}
+only-listing = Grid.only-listing

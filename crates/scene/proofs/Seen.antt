@@ -2,9 +2,8 @@
 -- cast counts are those of its walk: none twice, each a cell of the grid, at most columns + rows - 1 (demand 3). A hit names an edge of the site, so that none has
 -- the largest number, by which the Rust tells a miss. Assumes nothing.
 use Prim.Native.Nat.{ℕ, _*_, _<_}
-use mathlib.Core.Path.{_≡_, refl, sym, _∙_}
+use mathlib.Core.Path.{_≡_, refl, _∙_}
 use mathlib.Core.Bool.{Bool, true, false, cond}
-use mathlib.Core.List.{List}
 use native.Mathlib.Nat.{le-refl}
 use native.Mathlib.Omega.{arith}
 use lib.ListN.{length}
@@ -30,13 +29,12 @@ use Rattle.sight.specs.Holding.{holdsPoint}
 use Rattle.sight.specs.Holding as holding
 use Rattle.sight.specs.Casting as casting
 use Rattle.sight.proofs.Highest.{TopMost, top-most}
-use Rattle.sight.proofs.Cells.{castCells, cells-counted, cells-once}
+use Rattle.sight.proofs.Cells.{cells-counted, cells-once}
 use Rattle.sight.proofs.Edges.{Below, Numbered, hit-below}
 use Rattle.scene.specs.Asked.{asked, rayInDomain}
-use Rattle.scene.specs.Answers.{foundFrom, polygonAtOf, lookFrom, castRayOf}
+use Rattle.scene.specs.Answers.{foundFrom, polygonAtOf, lookFrom, castRayOf, seenCells}
 use Rattle.scene.specs.declared.Found.{Found}
 use Rattle.scene.specs.declared.Found.the-variants as found
-use Rattle.scene.specs.declared.Look.{Look}
 use Rattle.scene.specs.declared.Look.the-variants as look
 
 -- ---- `polygon_at`
@@ -84,18 +82,14 @@ edge-of : (n : ℕ) (c : Cast) (x : Float) (e : ℕ) → Hit x e ≡ c → Below
 edge-of n c x e h b = rw (← h) at b
 
 module _ (site : Site) (t : Tables) (o d : Vec2) (len : Float) where
-  -- the cells that the cast enters, in order
-  abbrev pub seenCells : List ℕ
-  seenCells = castCells (site .grid) (t .points) (t .boxes) (t .polygons) (t .starts) (t .items) (loadPointOf o) (loadPointOf d) (loadOf len)
-
-  pub seen-counted : (hit : Cast) (n : ℕ) → castRayOf site t o d len ≡ look.Seen hit n → n ≡ length seenCells
+  pub seen-counted : (hit : Cast) (n : ℕ) → castRayOf site t o d len ≡ look.Seen hit n → n ≡ length (seenCells site t o d len)
   unfolding castRayOf asked
   seen-counted hit n e =
       seen-by (casting.castRayOf (site .grid) (t .points) (t .boxes) (t .polygons) (t .starts) (t .items) (loadPointOf o) (loadPointOf d) (loadOf len)) hit n
       (soundOf site t) (rayInDomain o d len) e .2
       ∙ cells-counted (site .grid) (t .points) (t .boxes) (t .polygons) (t .starts) (t .items) (loadPointOf o) (loadPointOf d) (loadOf len)
 
-  pub seen-once : Once (site .grid) seenCells
+  pub seen-once : Once (site .grid) (seenCells site t o d len)
   seen-once = cells-once (site .grid) (t .points) (t .boxes) (t .polygons) (t .starts) (t .items) (loadPointOf o) (loadPointOf d) (loadOf len)
 
   -- a hit names an edge of the site

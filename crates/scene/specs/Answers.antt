@@ -108,3 +108,7 @@ unfoldable pub castRayOf : Site → Tables → Vec2 → Vec2 → Float → Look
 castRayOf site t o d len =
     asked look.Refused site t (rayInDomain o d len)
     (lookFrom (casting.castRayOf (site .grid) (t .points) (t .boxes) (t .polygons) (t .starts) (t .items) (loadPointOf o) (loadPointOf d) (loadOf len)))
+
+-- the cells that it enters, in order, where it is not refused
+abbrev pub seenCells : Site → Tables → Vec2 → Vec2 → Float → List ℕ
+seenCells site t o d len = casting.castCells (site .grid) (t .points) (t .boxes) (t .polygons) (t .starts) (t .items) (loadPointOf o) (loadPointOf d) (loadOf len)

@@ -2,3 +2,4 @@
 pub mod Asked
 pub mod Answers
 pub mod Stamping
+pub mod Numbers

@@ -2,7 +2,8 @@
 // No entry point requires anything. Each tests, in document 01's order, that the tables are sound (6), that the numbers given are in the domain (1), that
 // there are enough marks (7) and enough room (8), and carries the number of the first test that fails. A refusal as 6, 1 or 7 writes nothing.
 // Numbers are loaded: minus zero becomes plus zero. Functions take the site's head, then its six tables in their order, then what is asked.
-// Meanings: specs/Asked.antt (the order of tests), specs/Answers.antt (each answer), specs/Stamping.antt (calls that write).
+// Meanings: specs/Asked.antt (the order of tests), specs/Answers.antt (each answer), specs/Stamping.antt (calls that write), specs/Numbers.antt (answers as
+// numbers). When each call is refused, and as what, is proofs/Refusals.antt.
 use geom::Aabb;
 use geom::Vec2;
 use grid::Listing;

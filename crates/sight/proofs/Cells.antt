@@ -7,13 +7,8 @@ use lib.ListN.{length}
 use lib.Ieee.{Float}
 use Rattle.geom.specs.declared.Vec2.{Vec2}
 use Rattle.grid.specs.declared.Grid.{Grid}
-use Rattle.walk.specs.Tours.{rayCells}
 use Rattle.walk.proofs.EnteredOnce.{Once, entered-once, counted}
-use Rattle.sight.specs.Casting.{rayOf, looker, lookFirst, sightingOf, castRayOf}
-
--- the cells that a cast enters, in order
-abbrev pub castCells : Grid → List Float → List Float → List ℕ → List ℕ → List ℕ → Vec2 → Vec2 → Float → List ℕ
-castCells g points boxes polygons starts items o d len = rayCells (looker (rayOf o d) points boxes polygons starts items) g o d len (lookFirst len)
+use Rattle.sight.specs.Casting.{rayOf, looker, lookFirst, sightingOf, castRayOf, castCells}
 
 module _ (g : Grid) (points boxes : List Float) (polygons starts items : List ℕ) (o d : Vec2) (len : Float) where
   pub cells-counted : castRayOf g points boxes polygons starts items o d len .cells ≡ length (castCells g points boxes polygons starts items o d len)

@@ -24,7 +24,7 @@ use Rattle.walk.specs.declared.Start.{Start}
 use Rattle.walk.specs.declared.Start.the-variants as start
 use Rattle.walk.specs.declared.Step.{Step}
 use Rattle.walk.specs.declared.Step.the-variants.{Next, Stop}
-use Rattle.walk.specs.Clipping.{startOf}
+use Rattle.walk.specs.Clipping.{rayStart}
 use Rattle.walk.specs.Steps.{cellNumber, stepOf, left, OnGrid}
 use Rattle.walk.specs.Tours.{Visitor, Tour, endsAt, onward, tourIn, tour, tourFrom, rayTour}
 use Rattle.walk.proofs.StepLaws.{moves}
@@ -116,7 +116,7 @@ module _ (n : ℕ) where
 -- ---- the cast
 module _ (n : ℕ) (g : Grid) (points boxes : List Float) (polygons starts items : List ℕ) (o d : Vec2) (len : Float)
     (cells : (c : ℕ) → c < g .cols * g .rows → All (Numbered n points polygons) (cellOf starts items c)) where
-  from-below : (t : Start) → startOf g o d len ≡ t → Below n (tourFrom (looker (rayOf o d) points boxes polygons starts items) t (lookFirst len) .final .best .hit)
+  from-below : (t : Start) → rayStart g o d len ≡ t → Below n (tourFrom (looker (rayOf o d) points boxes polygons starts items) t (lookFirst len) .final .best .hit)
   from-below start.Miss e = tt
   from-below (start.From k p) e =
       let b = start-in g o d len k p e in
@@ -127,4 +127,4 @@ module _ (n : ℕ) (g : Grid) (points boxes : List Float) (polygons starts items
 
   pub hit-below : Below n (castRayOf g points boxes polygons starts items o d len .hit)
   unfolding castRayOf sightingOf rayTour
-  hit-below = from-below (startOf g o d len) refl
+  hit-below = from-below (rayStart g o d len) refl

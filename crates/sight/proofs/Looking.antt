@@ -16,7 +16,7 @@ use Rattle.walk.specs.declared.Course.{Course}
 use Rattle.walk.specs.declared.Place.{Place}
 use Rattle.walk.specs.declared.Start.the-variants as start
 use Rattle.walk.specs.declared.Step.the-variants.{Next, Stop}
-use Rattle.walk.specs.Clipping.{startOf}
+use Rattle.walk.specs.Clipping.{rayStart}
 use Rattle.walk.specs.Steps.{cellNumber, exitOf, stepOf, left, OnGrid}
 use Rattle.walk.specs.Tours.{Visitor, endsAt, before, tour, rayTour}
 use Rattle.walk.proofs.StepLaws.{moves}
@@ -83,12 +83,12 @@ module _ (ray : Ray) (points boxes : List Float) (polygons starts items : List �
 -- ---- the whole cast
 module _ (g : Grid) (points boxes : List Float) (polygons starts items : List ℕ) (o d : Vec2) (len : Float) where
   pub cast-from
-      : (k : Course) (p : Place) (r : Recent) (a : Sighting) → startOf g o d len ≡ start.From k p → r ≡ recentNone
+      : (k : Course) (p : Place) (r : Recent) (a : Sighting) → rayStart g o d len ≡ start.From k p → r ≡ recentNone
       → a ≡ sightingOf (tour (looker (rayOf o d) points boxes polygons starts items) k p (record { best = record { t = len; hit = Miss }; recent = r }))
       → a ≡ castRayOf g points boxes polygons starts items o d len
   unfolding castRayOf rayTour
   cast-from k p r a e f h = rw (e, ← f) h
 
-  pub cast-miss : startOf g o d len ≡ start.Miss → record { hit = Miss; cells = 0 } ≡ castRayOf g points boxes polygons starts items o d len
+  pub cast-miss : rayStart g o d len ≡ start.Miss → record { hit = Miss; cells = 0 } ≡ castRayOf g points boxes polygons starts items o d len
   unfolding castRayOf rayTour sightingOf
   cast-miss e = rw e

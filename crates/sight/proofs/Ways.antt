@@ -1,7 +1,7 @@
 -- The ways through the functions of `sight` that have branches, over plain values: tests and callees' answers are hypotheses. Assumes nothing.
-use mathlib.Core.Path.{_≡_, refl, sym, ap, _∙_}
-use mathlib.Core.Bool.{Bool, true, false, _||_}
-use mathlib.Core.List.{List, [], _∷_}
+use mathlib.Core.Path.{_≡_, refl, ap, _∙_}
+use mathlib.Core.Bool.{Bool, true, false, _||_, or-false, or-assoc}
+use mathlib.Core.List.{List}
 use Prim.Native.Nat.{ℕ, _+_, _≤_, _<_}
 use native.Mathlib.Numerals.{add-one}
 use native.Mathlib.Omega.{arith}
@@ -91,14 +91,6 @@ unfolding edgesUpTo
 next-edge ray ring first b₀ b b' prev k a c m eb ep ea ec em e = rw add-one (e ∙ rw (em, eb, ea, ec, ep))
 
 -- ---- `Recent::has`: the eight places one after the other
-or-assoc : (a b c : Bool) → (a || b) || c ≡ a || (b || c)
-or-assoc true b c = refl
-or-assoc false b c = refl
-
-or-false : (a : Bool) → a || false ≡ a
-or-false true = refl
-or-false false = refl
-
 holds-step : (x : ℕ) (l : List ℕ) (i : ℕ) → i < length l → holds x (drop i l) ≡ (eqb x (getD l i 0) || holds x (drop (i + 1) l))
 holds-step x l i h = rw (drop-here l i 0 h)
 

@@ -18,11 +18,10 @@ use Rattle.geom.specs.Ring.{cornerBefore}
 use Rattle.grid.specs.declared.Grid.{Grid}
 use Rattle.grid.specs.Boxes.{boxAt}
 use Rattle.grid.specs.Entries.{cellOf}
-use Rattle.site.specs.declared.Cast.{Cast}
 use Rattle.site.specs.declared.Cast.the-variants.{Hit, Miss}
 use Rattle.site.specs.Tables.{firstOf, vertsOf}
 use Rattle.walk.specs.Steps.{cellNumber, exitOf}
-use Rattle.walk.specs.Tours.{Visitor, Tour, rayTour}
+use Rattle.walk.specs.Tours.{Visitor, Tour, rayTour, rayCells}
 use Rattle.sight.specs.Slabs.{rayHitsAabbOf}
 use Rattle.sight.specs.declared.Ray.{Ray}
 use Rattle.sight.specs.declared.Best.{Best}
@@ -97,3 +96,7 @@ sightingOf t = record { hit = t .final .best .hit; cells = length (t .places) }
 unfoldable pub castRayOf : Grid → List Float → List Float → List ℕ → List ℕ → List ℕ → Vec2 → Vec2 → Float → Sighting
 castRayOf g points boxes polygons starts items o d len =
     sightingOf (rayTour (looker (rayOf o d) points boxes polygons starts items) g o d len (lookFirst len))
+
+-- the cells that it enters, in order
+abbrev pub castCells : Grid → List Float → List Float → List ℕ → List ℕ → List ℕ → Vec2 → Vec2 → Float → List ℕ
+castCells g points boxes polygons starts items o d len = rayCells (looker (rayOf o d) points boxes polygons starts items) g o d len (lookFirst len)

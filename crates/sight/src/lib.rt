@@ -1,5 +1,5 @@
 // What a point and a ray meet on a site: the Rust's `polygon_at`, `cast_ray` and `ray_hits_aabb` (`scene.rs`, lines 292 to 363), over lent tables.
-// Nothing here tests the tables: the entry points are in crate `scene`. Each function is total: a read past a table's end gives the default.
+// Nothing here tests the tables: the entry points are in crate `scene`. Each public function takes whatever it is lent: a read past a table's end gives the default.
 // Meanings: specs/Slabs.antt (the box test), specs/Holding.antt (`polygon_at`), specs/Casting.antt (`cast_ray`).
 use geom::Aabb;
 use geom::Reach;
@@ -24,7 +24,7 @@ ghost use Rattle.sight.specs.Casting.{rayOf, edgeNumber, nearerOf, edges
 
 // Slab test for the part of the ray with t from 0 to `t_max`. `inv` holds 1 / d for each axis. A NaN, where the ray lies on a slab's face, is passed over by
 // `min` and `max`, and what is left of it fails both tests, so that the box counts as hit.
-pub fn ray_hits_aabb(o: Vec2, inv: Vec2, b: Aabb, t_max: f64) -> bool
+fn ray_hits_aabb(o: Vec2, inv: Vec2, b: Aabb, t_max: f64) -> bool
     ensures { λ r. ⌜ r ≡ rayHitsAabbOf o inv b «t_max» ⌝ }
 {
     let tx1 = (b.min.x - o.x) * inv.x;

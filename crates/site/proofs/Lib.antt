@@ -4,3 +4,4 @@ pub mod Falling
 pub mod Ways
 pub mod SoundLaws
 pub mod Shares
+pub mod Checks

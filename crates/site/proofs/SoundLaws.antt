@@ -305,7 +305,7 @@ module _ {s : Site} {t : Tables} (h : Sound s t) where
       go false n = below (e + 1) (firstOf (t .polygons) k + lenOf (t .polygons) k) (s .points) (omega (arith, h .owner-end e q)) (h .inside k (h .owner-below e q)) (n refl)
 
   -- WHAT THE CRATE `grid` ASKS of the starts and the items
-  pub grid-sound : entries.Sound (s .grid .cols) (s .grid .rows) (t .starts) (t .items)
+  pub grid-sound : entries.SoundGrid (s .grid .cols) (s .grid .rows) (t .starts) (t .items)
   grid-sound = record {
     has-cols = h .has-cols;
     has-rows = h .has-rows;

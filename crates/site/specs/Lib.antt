@@ -2,3 +2,4 @@
 pub mod Tables
 pub mod Domain
 pub mod Soundness
+pub mod Checks

@@ -62,21 +62,29 @@ module _ (v : Env) (seen : ℕ) where
     to : {x : Run} (f : Run → Run) → x ≡ s → f s ≡ s → f x ≡ s
     to f e k = ap f e ∙ k
 
-    half-stays : (f : ℕ) (a b : End) (t : Turn) → halveWith (bounded v seen) (refineWith (bounded v seen) v f) a b t s ≡ s
+    cast-stays : (g : Float) → bounded v seen .cast g s ≡ s
+    cast-stays g = rw h
+
+    hide-stays : (g : Float) (e : ℕ) → owning v e (bounded v seen .cast g s) ≡ s
+    hide-stays g e = ap (owning v e) (cast-stays g) ∙ own-stays v s h e
+
+    half-stays : (f : ℕ) (a b : End) (t : Turn) → halveWith (bounded v seen) (refineWith (bounded v seen) v f) (v .view) a b t s ≡ s
     half-stays f a b t =
-        sim-halve (bounded v seen) (bounded v seen) (λ (x y : Run). x ≡ s) (λ _. Unit {0}) (λ p tag x y e. to (pushing (v .view .o) p tag) e (push-stays (v .view .o) s h p tag))
-        (λ w _ x y e. to (owning v w) e (own-stays v s h w)) (λ x y e. to (bounded v seen .cast) e (rw h)) (λ l x y e. to (bounded v seen .see l) e (see-stays l s h))
+        sim-halve (bounded v seen) (bounded v seen) (λ (x y : Run). x ≡ s) (λ _ _. Unit {0}) (λ _. Unit {0}) (λ p tag x y e. to (pushing (v .view .o) p tag) e (push-stays (v .view .o) s h p tag))
+        (λ w _ x y e. to (owning v w) e (own-stays v s h w)) (λ g x y e. to (bounded v seen .cast g) e (cast-stays g))
+        (λ g w _ x y e. to (λ (z : Run). owning v w (bounded v seen .cast g z)) e (hide-stays g w)) (λ l x y e. to (bounded v seen .see l) e (see-stays l s h))
         (refineWith (bounded v seen) v f) (refineWith (bounded v seen) v f)
-        (sim-refine (bounded v seen) (bounded v seen) (λ (x y : Run). x ≡ s) (λ _. Unit {0}) (λ p tag x y e. to (pushing (v .view .o) p tag) e (push-stays (v .view .o) s h p tag))
-        (λ w _ x y e. to (owning v w) e (own-stays v s h w)) (λ x y e. to (bounded v seen .cast) e (rw h)) (λ l x y e. to (bounded v seen .see l) e (see-stays l s h)) v (λ a b. turns-any (turnOf v a b)) f)
-        a b t (turns-any t) s s refl
+        (sim-refine (bounded v seen) (bounded v seen) (λ (x y : Run). x ≡ s) (λ _ _. Unit {0}) (λ _. Unit {0}) (λ p tag x y e. to (pushing (v .view .o) p tag) e (push-stays (v .view .o) s h p tag))
+        (λ w _ x y e. to (owning v w) e (own-stays v s h w)) (λ g x y e. to (bounded v seen .cast g) e (cast-stays g))
+        (λ g w _ x y e. to (λ (z : Run). owning v w (bounded v seen .cast g z)) e (hide-stays g w)) (λ l x y e. to (bounded v seen .see l) e (see-stays l s h)) v (λ a b. turns-any (turnOf v a b)) f)
+        (v .view) a b t (turns-any t) s s refl
 
   -- ---- refining
   cast-goes : (s : Run) → s .at .over ≡ false → cond (s .at .over) s (counting s) ≡ counting s
   cast-goes s h = ap (λ (x : Bool). cond x s (counting s)) h
 
   same-half : (f : ℕ) → ((a b : End) (s : Run) → refineOf v f a b s ≡ refineWith (bounded v seen) v f a b s) → (a b : End) (t : Turn) (s : Run) → s .at .over ≡ false
-      → halve (refineOf v f) v a b t s ≡ halveWith (bounded v seen) (refineWith (bounded v seen) v f) a b t s
+      → halve (refineOf v f) v a b t s ≡ halveWith (bounded v seen) (refineWith (bounded v seen) v f) (v .view) a b t s
   same-half f ih a b Stop s h = refl
   same-half f ih a b (Open p) s h = ap (pushing (v .view .o) p corner) (sym (cast-goes s h))
   same-half f ih a b (Hidden p g e) s h =

@@ -21,7 +21,7 @@ use Rattle.outline.specs.Outline.{corner, none, trace, Out, out, Own, owned, ow
 use Rattle.outline.proofs.Ways.{own-add, own-full, clash}
 use Rattle.refining.specs.Refine.{Env, turnOf, Run, runAt, counting, pushing, owning}
 use Rattle.seen.specs.Seen.{passed, pushAll}
-use Rattle.sweep.specs.Sweep.{Course, sweepOf, startOf, beginOf}
+use Rattle.sweep.specs.Sweep.{Course, sweepOf, withPost, beginOf}
 use Rattle.sweep.specs.Recorder.{bounded, freeAll, Free, freeAt, free, freeBegin, asRust, passes}
 use Rattle.sweep.proofs.Sim.{turns-any, hits-any, sim-sweep}
 use Rattle.sweep.proofs.Bounded.{push-stays, all-stays, own-stays, sweep-bounded}
@@ -79,10 +79,10 @@ module _ (v : Env) (l seen : ℕ) where
     abbrev marked : List ℕ
     marked = set (f .run .marks) (ownerAt (v .owners) e) 1
 
-    free-own : freeAt (f .run .pts) marked one (f .most) (e ∷ f .entries) ≡ free v .own e f
-    free-own = ap (λ (q : Own). freeAt (f .run .pts) (q .marks) (q .at) (f .most) (e ∷ f .entries)) (own-add (s .owners + 1) (v .owners) e (f .run .marks) s (h .pair .going) (omega arith))
+    free-own : freeAt (f .run .pts) marked one (f .most) (e ∷ f .entries) (f .rays) ≡ free v .own e f
+    free-own = ap (λ (q : Own). freeAt (f .run .pts) (q .marks) (q .at) (f .most) (e ∷ f .entries) (f .rays)) (own-add (s .owners + 1) (v .owners) e (f .run .marks) s (h .pair .going) (omega arith))
 
-    own-shut : b .at .over ≡ true → Beside l (v .room) seen b (freeAt (f .run .pts) marked one (f .most) (e ∷ f .entries))
+    own-shut : b .at .over ≡ true → Beside l (v .room) seen b (freeAt (f .run .pts) marked one (f .most) (e ∷ f .entries) (f .rays))
     own-shut k =
         record {
           pair = record {
@@ -108,7 +108,7 @@ module _ (v : Env) (l seen : ℕ) where
           ∙ ap (λ (x : List ℕ). ownOf (v .room) (v .owners) e x s) (sym (h .marks k))
           ∙ ap (ownOf (v .room) (v .owners) e (b .marks)) (sym (like .at)))
 
-      own-room : s .owners < v .room → Beside l (v .room) seen (runAt (b .pts) marked one) (freeAt (f .run .pts) marked one (f .most) (e ∷ f .entries))
+      own-room : s .owners < v .room → Beside l (v .room) seen (runAt (b .pts) marked one) (freeAt (f .run .pts) marked one (f .most) (e ∷ f .entries) (f .rays))
       own-room m =
           record {
             pair = record {
@@ -123,7 +123,7 @@ module _ (v : Env) (l seen : ℕ) where
             most = λ _. h .most k;
           }
 
-      own-past : v .room ≤ s .owners → Beside l (v .room) seen (runAt (b .pts) (f .run .marks) past) (freeAt (f .run .pts) marked one (f .most) (e ∷ f .entries))
+      own-past : v .room ≤ s .owners → Beside l (v .room) seen (runAt (b .pts) (f .run .marks) past) (freeAt (f .run .pts) marked one (f .most) (e ∷ f .entries) (f .rays))
       own-past m =
           record {
             pair = record {
@@ -138,25 +138,25 @@ module _ (v : Env) (l seen : ℕ) where
             most = λ z. absurd (clash refl z);
           }
 
-      own-open : Beside l (v .room) seen (owning v e b) (freeAt (f .run .pts) marked one (f .most) (e ∷ f .entries))
+      own-open : Beside l (v .room) seen (owning v e b) (freeAt (f .run .pts) marked one (f .most) (e ∷ f .entries) (f .rays))
       own-open =
           ⊎-elim
-          (λ m. subst (λ (q : Run). Beside l (v .room) seen q (freeAt (f .run .pts) marked one (f .most) (e ∷ f .entries))) (own-at (owned marked one) (own-add (v .room) (v .owners) e (f .run .marks) s (h .pair .going) m)) (own-room m))
-          (λ m. subst (λ (q : Run). Beside l (v .room) seen q (freeAt (f .run .pts) marked one (f .most) (e ∷ f .entries))) (own-at (owned (f .run .marks) past) (own-full (v .room) (v .owners) e (f .run .marks) s (h .pair .going) m)) (own-past m))
+          (λ m. subst (λ (q : Run). Beside l (v .room) seen q (freeAt (f .run .pts) marked one (f .most) (e ∷ f .entries) (f .rays))) (own-at (owned marked one) (own-add (v .room) (v .owners) e (f .run .marks) s (h .pair .going) m)) (own-room m))
+          (λ m. subst (λ (q : Run). Beside l (v .room) seen q (freeAt (f .run .pts) marked one (f .most) (e ∷ f .entries) (f .rays))) (own-at (owned (f .run .marks) past) (own-full (v .room) (v .owners) e (f .run .marks) s (h .pair .going) m)) (own-past m))
           (lt-or-le (s .owners) (v .room))
 
     own-beside : Beside l (v .room) seen (bounded v seen .own e b) (free v .own e f)
     own-beside = subst (Beside l (v .room) seen (owning v e b)) free-own (by (b .at .over) refl)
       where
-        by : (t : Bool) → b .at .over ≡ t → Beside l (v .room) seen (owning v e b) (freeAt (f .run .pts) marked one (f .most) (e ∷ f .entries))
-        by true k = subst (λ (q : Run). Beside l (v .room) seen q (freeAt (f .run .pts) marked one (f .most) (e ∷ f .entries))) (sym (own-stays v b k e)) (own-shut k)
+        by : (t : Bool) → b .at .over ≡ t → Beside l (v .room) seen (owning v e b) (freeAt (f .run .pts) marked one (f .most) (e ∷ f .entries) (f .rays))
+        by true k = subst (λ (q : Run). Beside l (v .room) seen q (freeAt (f .run .pts) marked one (f .most) (e ∷ f .entries) (f .rays))) (sym (own-stays v b k e)) (own-shut k)
         by false k = own-open k
 
   -- ---- a cast
-  cast-beside : (b : Run) (f : Free) → Beside l (v .room) seen b f → Beside l (v .room) seen (bounded v seen .cast b) (free v .cast f)
-  cast-beside b f h = by (b .at .over) refl
+  cast-beside : (g : Float) (b : Run) (f : Free) → Beside l (v .room) seen b f → Beside l (v .room) seen (bounded v seen .cast g b) (free v .cast g f)
+  cast-beside g b f h = by (b .at .over) refl
     where
-      shut : b .at .over ≡ true → Beside l (v .room) seen b (free v .cast f)
+      shut : b .at .over ≡ true → Beside l (v .room) seen b (free v .cast g f)
       shut k =
           record {
             pair = record { len = h .pair .len; size = h .pair .size; going = h .pair .going; same = λ z. absurd (clash k z); shut = h .pair .shut };
@@ -165,7 +165,7 @@ module _ (v : Env) (l seen : ℕ) where
             most = h .most;
           }
 
-      going-on : b .at .over ≡ false → Beside l (v .room) seen (counting b) (free v .cast f)
+      going-on : b .at .over ≡ false → Beside l (v .room) seen (counting b) (free v .cast g f)
       going-on k =
           let like : Like l (outOf b) (outOf (f .run)) = h .pair .same k in
           record {
@@ -181,9 +181,9 @@ module _ (v : Env) (l seen : ℕ) where
             most = h .most;
           }
 
-      by : (t : Bool) → b .at .over ≡ t → Beside l (v .room) seen (cond (b .at .over) b (counting b)) (free v .cast f)
-      by true k = subst (λ (t : Bool). Beside l (v .room) seen (cond t b (counting b)) (free v .cast f)) (sym k) (shut k)
-      by false k = subst (λ (t : Bool). Beside l (v .room) seen (cond t b (counting b)) (free v .cast f)) (sym k) (going-on k)
+      by : (t : Bool) → b .at .over ≡ t → Beside l (v .room) seen (cond (b .at .over) b (counting b)) (free v .cast g f)
+      by true k = subst (λ (t : Bool). Beside l (v .room) seen (cond t b (counting b)) (free v .cast g f)) (sym k) (shut k)
+      by false k = subst (λ (t : Bool). Beside l (v .room) seen (cond t b (counting b)) (free v .cast g f)) (sym k) (going-on k)
 
   -- ---- the corners seen at one event
   see-beside : (cs : List ℕ) (b : Run) (f : Free) → Beside l (v .room) seen b f → Beside l (v .room) seen (bounded v seen .see cs b) (free v .see cs f)
@@ -222,10 +222,10 @@ module _ (v : Env) (l seen : ℕ) where
 
 -- ---- where they begin
 begin-beside : (view : View) (room seen : ℕ) (pts : List Float) (marks : List ℕ) → Beside (length pts) room seen (beginOf view pts marks) (freeBegin view marks)
-unfolding beginOf startOf
+unfolding beginOf withPost
 begin-beside view room seen pts marks = by (view .full) refl
   where
-    start : Pair (length pts) (Other room seen (freeAt [] marks none 0 [])) (out pts none) (out [] none)
+    start : Pair (length pts) (Other room seen (freeAt [] marks none 0 [] [])) (out pts none) (out [] none)
     start =
         record {
           len = refl;
@@ -238,7 +238,7 @@ begin-beside view room seen pts marks = by (view .full) refl
     by : (t : Bool) → view .full ≡ t → Beside (length pts) room seen (beginOf view pts marks) (freeBegin view marks)
     by true k = rw k (record { pair = start; marks = λ _. refl; owners = λ _. omega arith; most = λ _. omega arith })
     by false k =
-        let q = push-pair (length pts) (Other room seen (freeAt [] marks none 0 [])) (view .o) (view .o) corner (out pts none) (out [] none) start in
+        let q = push-pair (length pts) (Other room seen (freeAt [] marks none 0 [] [])) (view .o) (view .o) corner (out pts none) (out [] none) start in
         let g = push-grows (view .o) (view .o) corner (out [] none) refl refl in
         rw k
         (record {
@@ -256,8 +256,9 @@ module _ (c : Course) (l : List Sample) (pts : List Float) (marks : List ℕ) wh
   pub beside : Beside (length pts) (c .env .room) (c .seen) inLent (asRust c l marks)
   beside =
       subst (λ (b : Run). Beside (length pts) (c .env .room) (c .seen) b (asRust c l marks)) (sym (sweep-bounded c l (beginOf (c .env .view) pts marks)))
-      (sim-sweep (bounded (c .env) (c .seen)) (free (c .env)) (Beside (length pts) (c .env .room) (c .seen)) (λ _. Unit {0}) (push-beside (c .env) (length pts) (c .seen)) (λ e _ b f h. own-beside (c .env) (length pts) (c .seen) e b f h)
-      (cast-beside (c .env) (length pts) (c .seen)) (see-beside (c .env) (length pts) (c .seen)) c (λ a b. turns-any (turnOf (c .env) a b)) l (λ a i. hits-any (a .hit)) (beginOf (c .env .view) pts marks) (freeBegin (c .env .view) marks)
+      (sim-sweep (bounded (c .env) (c .seen)) (free (c .env)) (Beside (length pts) (c .env .room) (c .seen)) (λ _ _. Unit {0}) (λ _. Unit {0}) (push-beside (c .env) (length pts) (c .seen)) (λ e _ b f h. own-beside (c .env) (length pts) (c .seen) e b f h)
+      (cast-beside (c .env) (length pts) (c .seen))
+      (λ g e _ b f h. own-beside (c .env) (length pts) (c .seen) e (bounded (c .env) (c .seen) .cast g b) (free (c .env) .cast g f) (cast-beside (c .env) (length pts) (c .seen) g b f h)) (see-beside (c .env) (length pts) (c .seen)) c (λ a b. turns-any (turnOf (c .env) a b)) l (λ a i. hits-any (a .hit)) (beginOf (c .env .view) pts marks) (freeBegin (c .env .view) marks)
       (begin-beside (c .env .view) (c .env .room) (c .seen) pts marks))
 
   -- over exactly where a list of the Rust's run is longer than its entries

@@ -95,6 +95,7 @@ pub record Grows (s : Trace) (q : Out) : Type 0 where
   pub going : q .at .over ≡ false
   pub up : s .points ≤ q .at .points
   pub owners : q .at .owners ≡ s .owners
+  pub casts : q .at .refinements ≡ s .refinements
 
 module _ (p : Vec2) (tag : ℕ) (l : List Float) (s : Trace) (hl : length l ≡ 2 * s .points + 2) (ho : s .over ≡ false) where
   short : (m : ℕ) (k : List Float) → length k ≡ length l → m ≤ s .points + 1 → length (take (2 * m) k) ≡ 2 * m
@@ -104,14 +105,14 @@ module _ (p : Vec2) (tag : ℕ) (l : List Float) (s : Trace) (hl : length l ≡ 
   two i j = length-set (set l i (p .x)) j (p .y) ∙ length-set l i (p .x)
 
   grows-keep : (k : Place) → Keep k → Grows s (out (take (2 * act k p tag l s .at .points) (act k p tag l s .pts)) (act k p tag l s .at))
-  grows-keep Skip h = record { size = short (s .points) l refl (omega arith); going = ho; up = omega arith; owners = refl }
-  grows-keep Corner h = record { size = short (s .points) _ (two (2 * s .points - 2) (2 * s .points - 1)) (omega arith); going = ho; up = omega arith; owners = refl }
-  grows-keep Same h = record { size = short (s .points) _ (two (2 * s .points - 2) (2 * s .points - 1)) (omega arith); going = ho; up = omega arith; owners = refl }
+  grows-keep Skip h = record { size = short (s .points) l refl (omega arith); going = ho; up = omega arith; owners = refl; casts = refl }
+  grows-keep Corner h = record { size = short (s .points) _ (two (2 * s .points - 2) (2 * s .points - 1)) (omega arith); going = ho; up = omega arith; owners = refl; casts = refl }
+  grows-keep Same h = record { size = short (s .points) _ (two (2 * s .points - 2) (2 * s .points - 1)) (omega arith); going = ho; up = omega arith; owners = refl; casts = refl }
   grows-keep Add h = absurd h
   grows-keep Full h = absurd h
 
   grows-add : Grows s (out (take (2 * act Add p tag l s .at .points) (act Add p tag l s .pts)) (act Add p tag l s .at))
-  grows-add = record { size = short (s .points + 1) _ (two (2 * s .points) (2 * s .points + 1)) (omega arith); going = ho; up = omega arith; owners = refl }
+  grows-add = record { size = short (s .points + 1) _ (two (2 * s .points) (2 * s .points + 1)) (omega arith); going = ho; up = omega arith; owners = refl; casts = refl }
 
 -- what a push into it comes to, by the place
 module _ (o p : Vec2) (tag : ℕ) (f : Out) (size : length (f .pts) ≡ 2 * f .at .points) (going : f .at .over ≡ false) where
@@ -312,8 +313,8 @@ module _ (l : ℕ) (Z : Type 0) (o : Vec2) (points : List Float) where
       all-pair cs (pushOf o (pointAt points c) corner (b .pts) (b .at)) (freePush o (pointAt points c) corner f) (push-pair l Z o (pointAt points c) corner b f h)
 
 pub all-grows : (o : Vec2) (points : List Float) (cs : List ℕ) (f : Out) → length (f .pts) ≡ 2 * f .at .points → f .at .over ≡ false → Grows (f .at) (freeAll o points cs f)
-all-grows o points [] f size going = record { size = size; going = going; up = omega arith; owners = refl }
+all-grows o points [] f size going = record { size = size; going = going; up = omega arith; owners = refl; casts = refl }
 all-grows o points (c ∷ cs) f size going =
     let g = push-grows o (pointAt points c) corner f size going in
     let n = all-grows o points cs (freePush o (pointAt points c) corner f) (g .size) (g .going) in
-    record { size = n .size; going = n .going; up = omega (arith, g .up, n .up); owners = n .owners ∙ g .owners }
+    record { size = n .size; going = n .going; up = omega (arith, g .up, n .up); owners = n .owners ∙ g .owners; casts = n .casts ∙ g .casts }

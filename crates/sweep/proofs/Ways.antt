@@ -30,7 +30,7 @@ use Rattle.seen.proofs.Pushes.{pushed-none, pushed-more}
 use Rattle.sweep.specs.declared.Next.{Next}
 use Rattle.sweep.specs.declared.Next.the-variants.{To, Last}
 use Rattle.room.specs.Constants.{angleEps}
-use Rattle.sweep.specs.Sweep.{sampleIn, dirIn, isPair, turned, nextIn, emitOf, Emitted, stepsOf, arcPoint, arcOf, gapOf, Course, betweenOf, visitOf, startOf, beginOf, sweepOf, Swept}
+use Rattle.sweep.specs.Sweep.{sampleIn, dirIn, isPair, turned, nextIn, emitOf, Emitted, stepsOf, arcPoint, arcOf, gapOf, Course, betweenOf, visitOf, withPost, beginOf, sweepOf, Swept}
 
 -- ---- the samples
 pub sample-is : (k : Rooms) (floats : List Float) (words : List ℕ) (i : ℕ) {a j m : ℕ} {s : Sample} → a ≡ orderW k → j ≡ i → m ≡ getD words (a + j) 0 → s ≡ sampleAt k floats words m
@@ -216,18 +216,18 @@ done-between e q d = record { points = omega (arith, d .points); owners = d .own
 
 -- ---- `begin` and `sweep`
 module _ (view : View) (pts : List Float) {t : Trace} (ht : t ≡ none) where
-  pub begin-full : view .full ≡ true → out pts t ≡ startOf view (out pts none)
-  unfolding startOf
+  pub begin-full : view .full ≡ true → out pts t ≡ withPost view (out pts none)
+  unfolding withPost
   begin-full f = rw f (ap (out pts) ht)
 
-  pub begin-post : view .full ≡ false → {u : Out} → u ≡ pushOf (view .o) (view .o) corner pts t → u ≡ startOf view (out pts none)
-  unfolding startOf
+  pub begin-post : view .full ≡ false → {u : Out} → u ≡ pushOf (view .o) (view .o) corner pts t → u ≡ withPost view (out pts none)
+  unfolding withPost
   begin-post f h = rw f (h ∙ ap (pushOf (view .o) (view .o) corner pts) ht)
 
 pub pushed-from : {l : ℕ} {s t r : Trace} → s ≡ t → Pushed l s r → Pushed l t r
 pushed-from e q = rw e at q
 
-pub swept : (c : Course) (l : List Sample) (view : View) (pts pts' : List Float) (marks : List ℕ) (s : Trace) {r : Run} → out pts' s ≡ startOf view (out pts none)
+pub swept : (c : Course) (l : List Sample) (view : View) (pts pts' : List Float) (marks : List ℕ) (s : Trace) {r : Run} → out pts' s ≡ withPost view (out pts none)
     → r ≡ sweepOf c l (runAt pts' marks s) → r ≡ sweepOf c l (beginOf view pts marks)
 unfolding beginOf
 swept c l view pts pts' marks s h e = e ∙ ap (λ (u : Out). sweepOf c l (runAt (u .pts) marks (u .at))) h

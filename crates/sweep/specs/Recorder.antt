@@ -21,7 +21,7 @@ use Rattle.outline.specs.Outline.{corner, none, Out, out, pushOf, ownOf}
 use Rattle.refining.specs.declared.End.{End}
 use Rattle.refining.specs.declared.Turn.{Turn}
 use Rattle.refining.specs.declared.Turn.the-variants.{Stop, Open, Hidden}
-use Rattle.refining.specs.Refine.{pointOf, Env, endOf, turnOf, Run, runAt, counting, pushing, owning}
+use Rattle.refining.specs.Refine.{pointOf, Env, crossingOf, endOf, turnOf, Run, runAt, counting, pushing, owning}
 use Rattle.seen.specs.Seen.{scene, seenOf, pushAll, passed}
 use Rattle.sweep.specs.declared.Next.{Next}
 use Rattle.sweep.specs.declared.Next.the-variants.{To, Last}
@@ -31,19 +31,21 @@ use Rattle.sweep.specs.Sweep.{isPair, nextOf, stepsOf, arcPoint, Course}
 pub record Recorder (S : Type 0) : Type 0 where
   pub push : Vec2 → ℕ → S → S
   pub own : ℕ → S → S
-  pub cast : S → S
+  -- a cast of refining, at an angle
+  pub cast : Float → S → S
   pub see : List ℕ → S → S
 
 module _ {S : Type 0} (r : Recorder S) where
   -- ---- refining
-  abbrev pub halveWith : (End → End → S → S) → End → End → Turn → S → S
-  halveWith again a b Stop s = s
-  halveWith again a b (Open p) s = r .push p corner (r .cast s)
-  halveWith again a b (Hidden p g e) s = again (endOf g e) b (r .push p e (again a (endOf g e) (r .own e (r .cast s))))
+  -- `turnOf` casts at the crossing's angle, and not where it answers `Stop` (`turn-cast` of proofs/Visible.antt)
+  abbrev pub halveWith : (End → End → S → S) → View → End → End → Turn → S → S
+  halveWith again view a b Stop s = s
+  halveWith again view a b (Open p) s = r .push p corner (r .cast (crossingOf view (a .angle) p) s)
+  halveWith again view a b (Hidden p g e) s = again (endOf g e) b (r .push p e (again a (endOf g e) (r .own e (r .cast g s))))
 
   unfoldable pub refineWith : Env → ℕ → End → End → S → S
   refineWith v zero a b s = s
-  refineWith v (suc f) a b s = halveWith (refineWith v f) a b (turnOf v a b) s
+  refineWith v (suc f) a b s = halveWith (refineWith v f) (v .view) a b (turnOf v a b) s
 
   -- ---- a sample, and what lies between two
   abbrev pub emitWith : Cast → View → Float → S → S
@@ -86,7 +88,7 @@ abbrev pub bounded : Env → ℕ → Recorder Run
 bounded v seen = record {
   push = pushing (v .view .o);
   own = owning v;
-  cast = λ s. cond (s .at .over) s (counting s);
+  cast = λ _ s. cond (s .at .over) s (counting s);
   see = λ l s.
       let q = cond (ltb seen (length l)) (out (s .pts) (passed (s .at))) (pushAll (v .view .o) (v .points) l (out (s .pts) (s .at))) in
       runAt (q .pts) (s .marks) (q .at);
@@ -101,30 +103,31 @@ abbrev pub freeAll : Vec2 → List Float → List ℕ → Out → Out
 freeAll o points [] s = s
 freeAll o points (c ∷ cs) s = freeAll o points cs (freePush o (pointAt points c) corner s)
 
--- the run, the most corners seen at one event, and the entries of `owners`, the last one first
+-- the run, the most corners seen at one event, the entries of `owners`, and the angles of the rays that refining cast, the last one first
 pub record Free : Type 0 where
   pub run : Run
   pub most : ℕ
   pub entries : List ℕ
+  pub rays : List Float
 
-abbrev pub freeAt : List Float → List ℕ → Trace → ℕ → List ℕ → Free
-freeAt pts marks at most entries = record { run = runAt pts marks at; most = most; entries = entries }
+abbrev pub freeAt : List Float → List ℕ → Trace → ℕ → List ℕ → List Float → Free
+freeAt pts marks at most entries rays = record { run = runAt pts marks at; most = most; entries = entries; rays = rays }
 
 abbrev pub free : Env → Recorder Free
 free v = record {
-  push = λ p tag f. let q = freePush (v .view .o) p tag (out (f .run .pts) (f .run .at)) in freeAt (q .pts) (f .run .marks) (q .at) (f .most) (f .entries);
+  push = λ p tag f. let q = freePush (v .view .o) p tag (out (f .run .pts) (f .run .at)) in freeAt (q .pts) (f .run .marks) (q .at) (f .most) (f .entries) (f .rays);
   own = λ e f.
-      let q = ownOf (f .run .at .owners + 1) (v .owners) e (f .run .marks) (f .run .at) in freeAt (f .run .pts) (q .marks) (q .at) (f .most) (e ∷ f .entries);
-  cast = λ f. record { run = counting (f .run); most = f .most; entries = f .entries };
+      let q = ownOf (f .run .at .owners + 1) (v .owners) e (f .run .marks) (f .run .at) in freeAt (f .run .pts) (q .marks) (q .at) (f .most) (e ∷ f .entries) (f .rays);
+  cast = λ g f. record { run = counting (f .run); most = f .most; entries = f .entries; rays = g ∷ f .rays };
   see = λ l f.
       let q = freeAll (v .view .o) (v .points) l (out (f .run .pts) (f .run .at)) in
-      freeAt (q .pts) (f .run .marks) (q .at) (max (f .most) (length l)) (f .entries);
+      freeAt (q .pts) (f .run .marks) (q .at) (max (f .most) (length l)) (f .entries) (f .rays);
 }
 
 -- where it begins
 abbrev pub freeBegin : View → List ℕ → Free
 freeBegin view marks =
-    let q = cond (view .full) (out [] none) (freePush (view .o) (view .o) corner (out [] none)) in freeAt (q .pts) marks (q .at) 0 []
+    let q = cond (view .full) (out [] none) (freePush (view .o) (view .o) corner (out [] none)) in freeAt (q .pts) marks (q .at) 0 [] []
 
 -- the whole walk as the Rust makes it
 abbrev pub asRust : Course → List Sample → List ℕ → Free

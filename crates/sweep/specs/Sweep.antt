@@ -157,11 +157,11 @@ sweepOf c [] s = s
 sweepOf c (a ∷ l) s = walkOf c a (a ∷ l) s
 
 -- where it begins: at the post in a sector
-unfoldable pub startOf : View → Out → Out
-startOf view s = cond (view .full) s (pushOf (view .o) (view .o) corner (s .pts) (s .at))
+unfoldable pub withPost : View → Out → Out
+withPost view s = cond (view .full) s (pushOf (view .o) (view .o) corner (s .pts) (s .at))
 
 unfoldable pub beginOf : View → List Float → List ℕ → Run
-beginOf view pts marks = let q = startOf view (out pts none) in runAt (q .pts) marks (q .at)
+beginOf view pts marks = let q = withPost view (out pts none) in runAt (q .pts) marks (q .at)
 
 -- ---- the counts
 -- at the start of a walk: the words hold the room, the points are within the list of l numbers, and there is no owner and no cast yet

@@ -24,7 +24,7 @@ ghost use Rattle.room.specs.Layout.{seenW, wordsFor};
 ghost use Rattle.room.specs.Records.{Directed};
 ghost use Rattle.outline.specs.Outline.{none, out, Pushed, Room};
 ghost use Rattle.refining.specs.Refine.{castIn, env, runAt, Ready, Done};
-ghost use Rattle.sweep.specs.Sweep.{sampleIn, dirIn, isPair, arcPoint, arcOf, stepsOf, emitOf, Emitted, gapOf, courseIn, betweenOf, visitOf, nextIn, startOf, beginOf, sweepOf, Walks, Swept};
+ghost use Rattle.sweep.specs.Sweep.{sampleIn, dirIn, isPair, arcPoint, arcOf, stepsOf, emitOf, Emitted, gapOf, courseIn, betweenOf, visitOf, nextIn, withPost, beginOf, sweepOf, Walks, Swept};
 
 const TAU: f64 = 6.283185307179586;
 
@@ -357,7 +357,7 @@ fn walk(
 
 // Where the outline begins: at the post in a sector.
 fn begin(pts: &mut [f64], view: View) -> Trace
-    ensures { λ r. ⌜ out (now (pts .exit)) r ≡ startOf view (out (now (pts .entry)) none) ⌝ }
+    ensures { λ r. ⌜ out (now (pts .exit)) r ≡ withPost view (out (now (pts .entry)) none) ⌝ }
     ensures { λ r. ⌜ Pushed (length (now (pts .entry))) none r ⌝ }
 {
     let o = view.o;

@@ -3,5 +3,6 @@ pub mod Cells
 pub mod Puts
 pub mod All
 pub mod Whole
+pub mod Only
 pub mod BuiltTables
 pub mod BuiltQuery

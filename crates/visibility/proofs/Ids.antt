@@ -31,16 +31,20 @@ use Rattle.room.specs.Layout.{isShort}
 use Rattle.fan.specs.Fan.{Fanned, isOver}
 use Rattle.events.specs.Spots.{Spot}
 use Rattle.refining.specs.Refine.{Run}
-use Rattle.visibility.specs.declared.Plan.{Plan}
-use Rattle.visibility.specs.declared.Plan.the-variants.{Empty, Inside, Query}
-use Rattle.visibility.specs.declared.Shown.{Shown}
-use Rattle.visibility.specs.declared.Visibility.the-variants.{Seen, Refused}
-use Rattle.visibility.specs.Asked.{admitOf, loadConeOf, planOf}
-use Rattle.visibility.specs.Drawing.{Request, viewIn, Drawing, eight, plain, fanIn, spotsFor, eventsOver, circleBy, raysOver, runOf, sweptOf, spotted, fanned, stagedOf}
-use Rattle.visibility.specs.Outcome.{Lent, out, lookOf, listedBy, planned, drawnOf, idsIn, requestOf, lookIn, seenFromOf, outcome}
-use Rattle.visibility.proofs.Named.{ids-named}
-use Rattle.visibility.proofs.Asking.{admitted-sound}
-use Rattle.visibility.proofs.Demand.{visible-owns, front-faces}
+use Rattle.view.specs.declared.Plan.{Plan}
+use Rattle.view.specs.declared.Plan.the-variants.{Empty, Inside, Query}
+use Rattle.stages.specs.declared.Shown.{Shown}
+use Rattle.stages.specs.declared.Visibility.the-variants.{Seen, Refused}
+use Rattle.cone.specs.Domain.{loadConeOf}
+use Rattle.visibility.specs.Asked.{admitOf}
+use Rattle.view.specs.Post.{planOf}
+use Rattle.stages.specs.Drawing.{Request, viewIn, Drawing, eight, plain, fanIn, spotsFor, eventsOver, circleBy, raysOver, runOf, sweptOf, spotted, fanned, stagedOf}
+use Rattle.stages.specs.Shows.{idsIn}
+use Rattle.view.specs.Outcome.{Lent, out, lookOf, listedBy, planned, drawnOf, requestOf, lookIn, seenFromOf}
+use Rattle.visibility.specs.Outcome.{outcome}
+use Rattle.view.proofs.Named.{ids-named}
+use Rattle.visibility.proofs.Admitting.{admitted-sound}
+use Rattle.stages.proofs.Demand.{visible-owns, front-faces}
 
 -- the ids are polygons of a sound site, each once
 pub record Distinct (site : Site) (t : Tables) (ids : List ℕ) : Type 0 where

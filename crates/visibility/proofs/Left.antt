@@ -31,13 +31,16 @@ use Rattle.room.specs.Layout.{isShort}
 use Rattle.fan.specs.Fan.{Fanned, isOver}
 use Rattle.events.specs.Spots.{Spot}
 use Rattle.refining.specs.Refine.{Run}
-use Rattle.visibility.specs.declared.Plan.{Plan}
-use Rattle.visibility.specs.declared.Plan.the-variants.{Empty, Inside, Query}
-use Rattle.visibility.specs.declared.Shown.{Shown}
-use Rattle.visibility.specs.declared.Visibility.the-variants.{Seen, Refused}
-use Rattle.visibility.specs.Asked.{coneInDomain, admitOf, loadConeOf, planOf}
-use Rattle.visibility.specs.Drawing.{Request, viewIn, Drawing, eight, plain, fanIn, spotsFor, eventsOver, circleBy, raysOver, runOf, sweptOf, spotted, fanned, stagedOf}
-use Rattle.visibility.specs.Outcome.{Lent, out, lookOf, listedBy, planned, drawnOf, requestOf, lookIn, seenFromOf, outcomeBy, outcome}
+use Rattle.view.specs.declared.Plan.{Plan}
+use Rattle.view.specs.declared.Plan.the-variants.{Empty, Inside, Query}
+use Rattle.stages.specs.declared.Shown.{Shown}
+use Rattle.stages.specs.declared.Visibility.the-variants.{Seen, Refused}
+use Rattle.cone.specs.Domain.{coneInDomain, loadConeOf}
+use Rattle.visibility.specs.Asked.{admitOf}
+use Rattle.view.specs.Post.{planOf}
+use Rattle.stages.specs.Drawing.{Request, viewIn, Drawing, eight, plain, fanIn, spotsFor, eventsOver, circleBy, raysOver, runOf, sweptOf, spotted, fanned, stagedOf}
+use Rattle.view.specs.Outcome.{Lent, out, lookOf, listedBy, planned, drawnOf, requestOf, lookIn, seenFromOf}
+use Rattle.visibility.specs.Outcome.{outcomeBy, outcome}
 
 -- ---- the stamps
 pub record SameStamps (x y : Lent) : Type 0 where

@@ -5,8 +5,9 @@ use Rattle.site.specs.declared.Site.{Site}
 use Rattle.site.specs.Tables.{Tables}
 use Rattle.cone.specs.declared.ViewCone.{ViewCone}
 use Rattle.room.specs.declared.Rooms.{Rooms}
-use Rattle.visibility.specs.declared.Visibility.{Visibility}
-use Rattle.visibility.specs.Outcome.{Lent, Outcome, out, Promise}
+use Rattle.stages.specs.declared.Visibility.{Visibility}
+use Rattle.view.specs.Outcome.{Lent, Outcome, out}
+use Rattle.visibility.specs.Outcome.{Promise}
 
 module _ (site : Site) (t : Tables) (c : ViewCone) (tolerance : Float) (k : Rooms) (l : Lent) where
   pub only : {o o' : Outcome} → Promise site t c tolerance k l o → Promise site t c tolerance k l o' → o ≡ o'

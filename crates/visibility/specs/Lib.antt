@@ -1,5 +1,5 @@
 -- What the functions of `visibility` mean.
 pub mod Asked
-pub mod Drawing
 pub mod Outcome
-pub mod Held
+pub mod Numbers
+pub mod Beside

@@ -14,9 +14,9 @@ use Rattle.lists.specs.Members.{In, NoDup, All, AllBelow}
 use Rattle.lists.proofs.Members.{all-map}
 use Rattle.geom.specs.declared.Vec2.{Vec2}
 use Rattle.grid.specs.declared.Grid.{Grid}
-use Rattle.walk.specs.Clipping.{startOf}
+use Rattle.walk.specs.Clipping.{rayStart}
 use Rattle.walk.specs.Steps.{cellNumber, stepOf, OnGrid, leftOf, left}
-use Rattle.walk.specs.Tours.{Visitor, Tour, endsAt, onward, tourIn, tour, tourFrom, cellsFrom, rayTour, rayCells}
+use Rattle.walk.specs.Tours.{Visitor, Tour, endsAt, onward, tourIn, tour, tourFrom, placeCells, rayTour, rayCells}
 use Rattle.walk.specs.declared.Turn.{Turn}
 use Rattle.walk.specs.declared.Turn.the-variants.{Up, Down, Stay}
 use Rattle.walk.specs.declared.Course.{Course}
@@ -115,8 +115,8 @@ all-cells : (k : Course) (n m : ℕ) → ((q : Place) → OnGrid k q → cellNum
 all-cells k n m h [] a = tt
 all-cells k n m h (q ∷ l) a = (h q (a .0 .0), all-cells k n m h l (a .1))
 
-once-by : {S : Type 0} (v : Visitor S) (g : Grid) (o d : Vec2) (len : Float) (s : S) (t : Start) → startOf g o d len ≡ t
-    → Once g (cellsFrom t (tourFrom v t s .places))
+once-by : {S : Type 0} (v : Visitor S) (g : Grid) (o d : Vec2) (len : Float) (s : S) (t : Start) → rayStart g o d len ≡ t
+    → Once g (placeCells t (tourFrom v t s .places))
 once-by v g o d len s Miss e = record { distinct = tt; few = omega arith; inside = tt }
 once-by v g o d len s (From k p) e =
     let b = start-in g o d len k p e in
@@ -130,13 +130,13 @@ once-by v g o d len s (From k p) e =
 
 pub entered-once : {S : Type 0} (v : Visitor S) (g : Grid) (o d : Vec2) (len : Float) (s : S) → Once g (rayCells v g o d len s)
 unfolding rayTour rayCells
-entered-once v g o d len s = once-by v g o d len s (startOf g o d len) refl
+entered-once v g o d len s = once-by v g o d len s (rayStart g o d len) refl
 
-counted-by : {S : Type 0} (v : Visitor S) (t : Start) (s : S) → length (cellsFrom t (tourFrom v t s .places)) ≡ length (tourFrom v t s .places)
+counted-by : {S : Type 0} (v : Visitor S) (t : Start) (s : S) → length (placeCells t (tourFrom v t s .places)) ≡ length (tourFrom v t s .places)
 counted-by v Miss s = refl
 counted-by v (From k p) s = length-map (tour v k p s .places) (cellNumber k)
 
 -- as many cells as places
 pub counted : {S : Type 0} (v : Visitor S) (g : Grid) (o d : Vec2) (len : Float) (s : S) → length (rayCells v g o d len s) ≡ length (rayTour v g o d len s .places)
 unfolding rayTour rayCells
-counted v g o d len s = counted-by v (startOf g o d len) s
+counted v g o d len s = counted-by v (rayStart g o d len) s

@@ -13,7 +13,7 @@ use Rattle.lists.proofs.Members.{all-map}
 use Rattle.num.specs.Num.{minOf}
 use Rattle.geom.specs.declared.Vec2.{Vec2}
 use Rattle.grid.specs.declared.Grid.{Grid}
-use Rattle.walk.specs.Clipping.{startOf}
+use Rattle.walk.specs.Clipping.{rayStart}
 use Rattle.walk.specs.Steps.{exitOf}
 use Rattle.walk.specs.Tours.{Visitor, tour}
 use Rattle.walk.specs.declared.Turn.{Turn}
@@ -70,7 +70,7 @@ ends-by k p false c e s =
 
 -- at every place of every visitor's walk
 pub never-stays
-    : {S : Type 0} (v : Visitor S) (g : Grid) (o d : Vec2) (len : Float) (s : S) (k : Course) (p : Place) → isNan len ≡ false → startOf g o d len ≡ From k p
+    : {S : Type 0} (v : Visitor S) (g : Grid) (o d : Vec2) (len : Float) (s : S) (k : Course) (p : Place) → isNan len ≡ false → rayStart g o d len ≡ From k p
     → All (λ q. turnAt k q ≡ Stay → le (k .t1) (exitOf k q) ≡ true) (tour v k p s .places)
 never-stays v g o d len s k p h e =
     all-map (Calm k) (λ q. turnAt k q ≡ Stay → le (k .t1) (exitOf k q) ≡ true) (λ q c. ends-by k q _ c refl) (tour v k p s .places)

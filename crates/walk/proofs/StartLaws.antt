@@ -13,7 +13,7 @@ use Rattle.num.specs.Ops.{_⊖_, _⊗_, _⊘_, zeroF, oneF}
 use Rattle.num.specs.Num.{absOf, floorOf, minOf, maxOf}
 use Rattle.geom.specs.declared.Vec2.{Vec2}
 use Rattle.grid.specs.declared.Grid.{Grid}
-use Rattle.walk.specs.Clipping.{still, clipOf, inPart, endOf, clipBoxOf, clampTo, indexOf, axisOf, setOutOf, onPart, startOf}
+use Rattle.walk.specs.Clipping.{still, clipOf, inPart, endOf, clipBoxOf, clampTo, indexOf, axisOf, setOutOf, onPart, rayStart}
 use Rattle.walk.specs.Steps.{OnGrid}
 use Rattle.walk.specs.declared.Turn.the-variants.{Up, Down, Stay}
 use Rattle.walk.specs.declared.Axis.{Axis}
@@ -138,6 +138,6 @@ module _ (g : Grid) (o d : Vec2) (len : Float) where
       let r : g .rows ≡ 0 → ⊥ = eqb-false (g .rows) 0 y in
       part-in (clipBoxOf g o d len) k p (omega arith) (omega arith) box-ends e
 
-  pub start-in : (k : Course) (p : Place) → startOf g o d len ≡ From k p → Begun g len k p
-  unfolding startOf
+  pub start-in : (k : Course) (p : Place) → rayStart g o d len ≡ From k p → Begun g len k p
+  unfolding rayStart
   start-in k p e = start-by k p (eqb (g .cols) 0) (eqb (g .rows) 0) refl refl e

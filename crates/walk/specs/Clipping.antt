@@ -87,5 +87,5 @@ onPart f (Part t0 t1) = cond (lt t1 t0) Miss (f t0 t1)
 onPart f Nowhere = Miss
 
 -- where the walk begins
-unfoldable pub startOf : Grid → Vec2 → Vec2 → Float → Start
-startOf g o d len = cond (eqb (g .cols) 0 || eqb (g .rows) 0) Miss (onPart (setOutOf g o d) (clipBoxOf g o d len))
+unfoldable pub rayStart : Grid → Vec2 → Vec2 → Float → Start
+rayStart g o d len = cond (eqb (g .cols) 0 || eqb (g .rows) 0) Miss (onPart (setOutOf g o d) (clipBoxOf g o d len))

@@ -12,7 +12,7 @@ use Rattle.walk.specs.declared.Step.{Step}
 use Rattle.walk.specs.declared.Step.the-variants.{Next, Stop}
 use Rattle.walk.specs.declared.Start.{Start}
 use Rattle.walk.specs.declared.Start.the-variants.{From, Miss}
-use Rattle.walk.specs.Clipping.{startOf}
+use Rattle.walk.specs.Clipping.{rayStart}
 use Rattle.walk.specs.Steps.{cellNumber, stepOf, left}
 
 -- What a visitor that keeps a state does at a place, and whether it then goes on. The course is at hand, for the cell and the exit.
@@ -54,17 +54,17 @@ module _ {S : Type 0} where
   tourFrom v Miss s = record { places = []; final = s }
 
 -- the numbers of the places' cells
-abbrev pub cellsFrom : Start → List Place → List ℕ
-cellsFrom (From k p) l = map (cellNumber k) l
-cellsFrom Miss l = []
+abbrev pub placeCells : Start → List Place → List ℕ
+placeCells (From k p) l = map (cellNumber k) l
+placeCells Miss l = []
 
 -- what a visitor makes of the ray o + t * d, t from 0 to len, over a grid
 unfoldable pub rayTour : {S : Type 0} → Visitor S → Grid → Vec2 → Vec2 → Float → S → Tour S
-rayTour v g o d len s = tourFrom v (startOf g o d len) s
+rayTour v g o d len s = tourFrom v (rayStart g o d len) s
 
 -- the cells that it enters
 unfoldable pub rayCells : {S : Type 0} → Visitor S → Grid → Vec2 → Vec2 → Float → S → List ℕ
-rayCells v g o d len s = cellsFrom (startOf g o d len) (rayTour v g o d len s .places)
+rayCells v g o d len s = placeCells (rayStart g o d len) (rayTour v g o d len s .places)
 
 -- a visitor that sees nothing and never stops: its tour is the whole walk
 abbrev pub passerBy : Visitor (Unit {0})

@@ -1,12 +1,12 @@
 // The cells that a ray pierces, nearest first: the Rust's `UniformGrid::traverse_ray` and `axis_setup` (grid.rs), as single steps on states by value.
 // `traverse_ray` gives the course and the first place. At a place, `cell_of` and `exit_of` give what the Rust hands to its visitor; `advance` is the rest of
 // the Rust's loop. A caller visits the cell, stops if it has seen enough, and advances.
-// Meanings: specs/Clipping.antt (where the walk begins), specs/Steps.antt (a step), specs/Tours.antt (the walk). Each public function is total.
+// Meanings: specs/Clipping.antt (where the walk begins), specs/Steps.antt (a step), specs/Tours.antt (the walk). Each public function takes whatever it is given.
 // Where the Rust would step and yet stay in its cell, the walk ends (document 01, "Site and grid"); with a length that is a number it never comes to that
 // (proofs/NeverStays.antt).
 ghost use mathlib.Core.Path.{_≡_};
 ghost use Prim.Native.Nat.{_<_};
-ghost use Rattle.walk.specs.Clipping.{clipOf, clipBoxOf, indexOf, axisOf, setOutOf, startOf, Cells};
+ghost use Rattle.walk.specs.Clipping.{clipOf, clipBoxOf, indexOf, axisOf, setOutOf, rayStart, Cells};
 ghost use Rattle.walk.specs.Steps.{movedTo, cellNumber, exitOf, stepOf};
 use geom::Vec2;
 use grid::Grid;
@@ -165,7 +165,7 @@ fn set_out(g: Grid, origin: Vec2, dir: Vec2, t0: f64, t1: f64) -> Start
 
 // Where the walk of the ray `origin + t * dir`, t from 0 to `length`, begins. A grid without cells has no walk: the sites' tests let none through.
 pub fn traverse_ray(g: Grid, origin: Vec2, dir: Vec2, length: f64) -> Start
-    ensures { λ r. ⌜ r ≡ startOf g origin dir length ⌝ }
+    ensures { λ r. ⌜ r ≡ rayStart g origin dir length ⌝ }
 {
     if g.cols == 0 {
         return Start::Miss;

@@ -6,6 +6,7 @@ pub mod Nearest
 pub mod Prefix
 pub mod Stored
 pub mod Written
+pub mod Only
 pub mod Rings
 pub mod Lined
 pub mod Texts

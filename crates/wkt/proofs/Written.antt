@@ -1,20 +1,24 @@
--- WHAT IS READ OF A TEXT IS THE FLOAT NEAREST TO THE DECIMAL THAT STANDS THERE: `number-nearest`, over the counts w and f of digits allowed.
--- And raising f changes nothing that was read before: `number-more`.
+-- WHAT IS READ OF A TEXT IS THE FLOAT NEAREST TO THE NUMBER THAT STANDS THERE, over the counts w and f of digits allowed. `number-nearest`: where a float is read,
+-- the text starts with a numeral, sign, digits, point and digits, and the float is the one nearest to what they write. `number-read`: every numeral is read, to its
+-- end. And raising f changes nothing that was read before: `number-more`.
 -- Assumes nothing.
 use mathlib.Core.Path.{_≡_, refl, sym, ap, _∙_, subst}
-use mathlib.Core.Bool.{Bool, true, false, _&&_, cond, and-eq-true-iff}
-use mathlib.Core.List.{List, [], _∷_}
-use Prim.Native.Nat.{ℕ, suc, _+_, _-_, _*_, _^_, _≤_, _<_}
-use native.Mathlib.Nat.{mul-assoc, mul-one, mul-comm, one-mul, mul-le-mul-right, lt-of-lt-of-le, le-of-eq, le-trans, pow-suc}
+use mathlib.Core.Bool.{Bool, true, false, _&&_, cond, false≢true, and-eq-true-iff}
+use mathlib.Core.List.{List, [], _∷_, _++_, append-assoc}
+use Prim.Native.Nat.{ℕ, suc, _+_, _-_, _*_, _^_, _≤_, _<_, zero-le}
+use native.Mathlib.Nat.{mul-assoc, mul-one, mul-comm, mul-le-mul-right, lt-of-lt-of-le, le-of-eq, le-trans, pow-suc}
 use native.Mathlib.Omega.{arith}
 use lib.ListN.{length, drop}
-use lib.Dec.{leb}
-use borrow.Author.Tests.{leb-true, le-leb}
+use lib.Dec.{leb, eqb}
+use borrow.Author.Tests.{leb-true, le-leb, eqb-true, ne-eqb}
 use lib.Ieee.{Float}
 use Rattle.wkt.specs.Parse.{Parse, got, wrong, andThen, starts, isDigit, consWhile, run, past, valueOf}
 use Rattle.wkt.specs.Number.{Digits, digits, digitsOf, decimal, withPart, afterWhole, withWhole, unsigned, number}
+use Rattle.wkt.specs.Numeral.{Numeral, pointOf, lower, upper, Digit, Stands}
 use Rattle.wkt.specs.Nearest.{Nearest}
-use Rattle.wkt.proofs.Numerals.{dec-fits, ten-le}
+use Rattle.wkt.specs.Words.{minusByte, minusIf, pointByte}
+use Rattle.lists.specs.Members.{All}
+use Rattle.wkt.proofs.Numerals.{dec-fits}
 use Rattle.wkt.proofs.Prefix.{not-got, same-got}
 use Rattle.wkt.proofs.Nearest.{decimal-nearest}
 
@@ -22,87 +26,217 @@ use Rattle.wkt.proofs.Nearest.{decimal-nearest}
 digit-few : (b : ℕ) (p q : Bool) → leb b 57 ≡ q → (p && q) ≡ true → b - 48 ≤ 9
 digit-few b p q e h = omega (arith, leb-true b 57 (e ∙ and-eq-true-iff p q .0 h .1))
 
-run-few : (t : List ℕ) (a : ℕ) → valueOf a (run t) < suc a * 10 ^ length (run t)
-run-few [] a = omega (arith, mul-one (suc a))
-run-few (b ∷ t) a = go (isDigit b) refl (run-few t (a * 10 + (b - 48)))
+digits-few : (l : List ℕ) (a : ℕ) → All Digit l → valueOf a l < suc a * 10 ^ length l
+digits-few [] a h = omega (arith, mul-one (suc a))
+digits-few (b ∷ l) a h =
+    let n = length l in
+    let d = digit-few b (leb 48 b) (leb b 57) refl (h .0) in
+    let s : suc (a * 10 + (b - 48)) ≤ suc a * 10 = omega arith in
+    lt-of-lt-of-le (digits-few l (a * 10 + (b - 48)) (h .1)) (le-trans (mul-le-mul-right (10 ^ n) s) (le-of-eq (mul-assoc (suc a) 10 (10 ^ n) ∙ ap (λ (x : ℕ). suc a * x) (mul-comm 10 (10 ^ n) ∙ sym (pow-suc 10 n)))))
+
+-- ---- the digits that a text starts with, and what follows them
+run-past : (t : List ℕ) → t ≡ run t ++ past t
+run-past [] = refl
+run-past (b ∷ t) = go (isDigit b) (run-past t)
   where
-    go : (d : Bool) → isDigit b ≡ d → valueOf (a * 10 + (b - 48)) (run t) < suc (a * 10 + (b - 48)) * 10 ^ length (run t) → valueOf a (consWhile d b (run t)) < suc a * 10 ^ length (consWhile d b (run t))
-    go true e ih =
-        let n = length (run t) in
-        let h = digit-few b (leb 48 b) (leb b 57) refl e in
-        let s : suc (a * 10 + (b - 48)) ≤ suc a * 10 = omega arith in
-        lt-of-lt-of-le ih (le-trans (mul-le-mul-right (10 ^ n) s) (le-of-eq (mul-assoc (suc a) 10 (10 ^ n) ∙ ap (λ (x : ℕ). suc a * x) (mul-comm 10 (10 ^ n) ∙ sym (pow-suc 10 n)))))
-    go false e ih = omega (arith, mul-one (suc a))
+    go : (d : Bool) → t ≡ run t ++ past t → b ∷ t ≡ consWhile d b (run t) ++ cond d (past t) (b ∷ t)
+    go true e = ap (λ (l : List ℕ). b ∷ l) e
+    go false e = refl
 
-record Few (limit v k : ℕ) : Type 0 where
-  pub below : v < 10 ^ k
-  pub count : k ≤ limit
+run-digits : (t : List ℕ) → All Digit (run t)
+run-digits [] = tt
+run-digits (b ∷ t) = go (isDigit b) refl (run-digits t)
+  where
+    go : (d : Bool) → isDigit b ≡ d → All Digit (run t) → All Digit (consWhile d b (run t))
+    go true e h = (e, h)
+    go false e h = tt
 
-few : (limit : ℕ) (t : List ℕ) (v k : ℕ) (u : List ℕ) → digitsOf limit t ≡ got (digits v k) u → Few limit v k
+past-none : (t : List ℕ) → run (past t) ≡ []
+past-none [] = refl
+past-none (b ∷ t) = go (isDigit b) refl (past-none t)
+  where
+    go : (d : Bool) → isDigit b ≡ d → run (past t) ≡ [] → run (cond d (past t) (b ∷ t)) ≡ []
+    go true e h = h
+    go false e h = rw e
+
+no-digits : {A : Type 0} (l : List ℕ) → 1 ≤ length l → l ≡ [] → A
+no-digits l h e = let n : length l ≡ 0 = ap length e in absurd (omega arith)
+
+-- and the other way round: digits, and then no digit
+run-is : (l r : List ℕ) → All Digit l → run r ≡ [] → run (l ++ r) ≡ l
+run-is [] r h e = e
+run-is (b ∷ l) r h e = let d = h .0 in rw d (ap (λ (k : List ℕ). b ∷ k) (run-is l r (h .1) e))
+
+past-stays : (r : List ℕ) → run r ≡ [] → past r ≡ r
+past-stays [] e = refl
+past-stays (b ∷ r) e = go (isDigit b) e
+  where
+    go : (d : Bool) → consWhile d b (run r) ≡ [] → cond d (past r) (b ∷ r) ≡ b ∷ r
+    go true e = no-digits (b ∷ run r) (omega arith) e
+    go false e = refl
+
+past-is : (l r : List ℕ) → All Digit l → run r ≡ [] → past (l ++ r) ≡ r
+past-is [] r h e = past-stays r e
+past-is (b ∷ l) r h e = let d = h .0 in rw d (past-is l r (h .1) e)
+
+-- ---- 1 to limit digits were read: the run, and nothing else
+record Ran (limit : ℕ) (t : List ℕ) (v k : ℕ) (u : List ℕ) : Type 0 where
+  pub value : v ≡ valueOf 0 (run t)
+  pub count : k ≡ length (run t)
+  pub rest : u ≡ past t
+  pub some : 1 ≤ length (run t)
+  pub few : length (run t) ≤ limit
+
+ran : (limit : ℕ) (t : List ℕ) (v k : ℕ) (u : List ℕ) → digitsOf limit t ≡ got (digits v k) u → Ran limit t v k u
 unfolding digitsOf
-few limit t v k u = go (leb 1 (length (run t)) && leb (length (run t)) limit) refl
+ran limit t v k u = go (leb 1 (length (run t)) && leb (length (run t)) limit) refl
   where
-    go : (b : Bool) → (leb 1 (length (run t)) && leb (length (run t)) limit) ≡ b → cond b (got (digits (valueOf 0 (run t)) (length (run t))) (past t)) wrong ≡ got (digits v k) u → Few limit v k
+    go : (b : Bool) → (leb 1 (length (run t)) && leb (length (run t)) limit) ≡ b → cond b (got (digits (valueOf 0 (run t)) (length (run t))) (past t)) wrong ≡ got (digits v k) u → Ran limit t v k u
     go true e h =
-        let s = same-got (digits (valueOf 0 (run t)) (length (run t))) (digits v k) (past t) u h .0 in
-        let a : v ≡ valueOf 0 (run t) = cc in
-        let c : k ≡ length (run t) = cc in
-        let r = run-few t 0 in
-        record {
-          below = subst (λ (x : ℕ). x < 10 ^ k) (sym a) (subst (λ (x : ℕ). valueOf 0 (run t) < 10 ^ x) (sym c) (lt-of-lt-of-le r (le-of-eq (one-mul (10 ^ length (run t))))));
-          count = omega (arith, leb-true (length (run t)) limit (and-eq-true-iff (leb 1 (length (run t))) (leb (length (run t)) limit) .0 e .1));
-        }
+        let s = same-got (digits (valueOf 0 (run t)) (length (run t))) (digits v k) (past t) u h in
+        let d : digits v k ≡ digits (valueOf 0 (run t)) (length (run t)) = s .0 in
+        let both = and-eq-true-iff (leb 1 (length (run t))) (leb (length (run t)) limit) .0 e in
+        record { value = cc; count = cc; rest = s .1; some = leb-true 1 (length (run t)) (both .0); few = leb-true (length (run t)) limit (both .1) }
     go false e h = absurd (not-got (digits v k) u h)
 
--- ---- x is the float nearest to a decimal of at most w digits, and k, at most f, after the point
-pub record Written (w f : ℕ) (x : Float) : Type 0 where
-  pub minus : Bool
-  pub whole : ℕ
-  pub part : ℕ
-  pub places : ℕ
-  pub few-whole : whole < 10 ^ w
-  pub few-part : part < 10 ^ places
-  pub few-places : places ≤ f
-  pub is : x ≡ decimal minus whole part places
-  pub nearest : Nearest minus (whole * 10 ^ places + part) (10 ^ places) x
+-- digits that stand there are read
+reads : (limit : ℕ) (l r : List ℕ) → All Digit l → run r ≡ [] → 1 ≤ length l → length l ≤ limit → digitsOf limit (l ++ r) ≡ got (digits (valueOf 0 l) (length l)) r
+unfolding digitsOf
+reads limit l r h e a b = rw (run-is l r h e, past-is l r h e, le-leb 1 (length l) a, le-leb (length l) limit b)
 
-module _ (w f : ℕ) (W : w + f ≤ 15) (s : Bool) (x : Float) (rest : List ℕ) where
-  written : (n c v k : ℕ) → Few w n c → v < 10 ^ k → k ≤ f → x ≡ decimal s n v k → Written w f x
-  written n c v k p h l e =
-      let C = p .count in
-      record {
-        minus = s;
-        whole = n;
-        part = v;
-        places = k;
-        few-whole = lt-of-lt-of-le (p .below) (ten-le c w C);
-        few-part = h;
-        few-places = l;
-        is = e;
-        nearest = subst (Nearest s (n * 10 ^ k + v) (10 ^ k)) (sym e) (decimal-nearest s n v k (dec-fits n v c k w f (p .below) h C l W) (omega arith));
-      }
+-- ---- a byte that the text starts with
+starts-with : (b : ℕ) (t : List ℕ) → starts b t ≡ true → t ≡ b ∷ drop 1 t
+starts-with b [] e = absurd (false≢true e)
+starts-with b (x ∷ t) e = ap (λ (y : ℕ). y ∷ t) (eqb-true x b e)
 
-  after-nearest : (b : Bool) (n c : ℕ) (u : List ℕ) → Few w n c → afterWhole b f s n u ≡ got x rest → Written w f x
-  after-nearest true n c u p h = go (digitsOf f (drop 1 u)) refl h
-    where
-      go : (r : Parse Digits) → digitsOf f (drop 1 u) ≡ r → andThen r (withPart s n) ≡ got x rest → Written w f x
-      go (got (digits v k) z) e h =
-          let q = few f (drop 1 u) v k z e in
-          written n c v k p (q .below) (q .count) (same-got (decimal s n v k) x z rest h .0)
-      go wrong e h = absurd (not-got x rest h)
-  after-nearest false n c u p h = written n c 0 0 p (omega arith) (omega arith) (same-got (decimal s n 0 0) x u rest h .0)
+-- ---- x was read of the text t, and `rest` is left: a numeral stands there, and x is the float nearest to its value
+pub record Written (w f : ℕ) (t rest : List ℕ) (x : Float) : Type 0 where
+  pub numeral : Numeral
+  pub stands : Stands w f numeral t rest
+  pub nearest : Nearest (numeral .minus) (upper numeral) (lower numeral) x
 
-  unsigned-nearest : (t : List ℕ) → unsigned w f s t ≡ got x rest → Written w f x
-  unfolding unsigned
-  unsigned-nearest t = go (digitsOf w t) refl
-    where
-      go : (r : Parse Digits) → digitsOf w t ≡ r → andThen r (withWhole f s) ≡ got x rest → Written w f x
-      go (got (digits n c) u) e h = after-nearest (starts 46 u) n c u (few w t n c u e) h
-      go wrong e h = absurd (not-got x rest h)
+-- the float of a numeral, as the grammar has it
+abbrev pub floatOf : Numeral → Float
+floatOf n = decimal (n .minus) (valueOf 0 (n .whole)) (valueOf 0 (n .part)) (length (n .part))
 
-pub number-nearest : (w f : ℕ) → w + f ≤ 15 → (t : List ℕ) (x : Float) (rest : List ℕ) → number w f t ≡ got x rest → Written w f x
+near : (w f : ℕ) (W : w + f ≤ 15) (n : Numeral) (t rest : List ℕ) (x : Float) → Stands w f n t rest → x ≡ floatOf n → Written w f t rest x
+near w f W n t rest x h e =
+    let a : valueOf 0 (n .whole) < 1 * 10 ^ length (n .whole) = digits-few (n .whole) 0 (h .digits-before) in
+    let b : valueOf 0 (n .part) < 1 * 10 ^ length (n .part) = digits-few (n .part) 0 (h .digits-after) in
+    let l : length (n .part) ≤ 15 = omega (arith, h .few-after) in
+    record {
+      numeral = n;
+      stands = h;
+      nearest = subst (Nearest (n .minus) (upper n) (lower n)) (sym e)
+          (decimal-nearest (n .minus) (valueOf 0 (n .whole)) (valueOf 0 (n .part)) (length (n .part))
+          (dec-fits (valueOf 0 (n .whole)) (valueOf 0 (n .part)) (length (n .whole)) (length (n .part)) w f (omega arith) (omega arith) (h .few-before) (h .few-after) W) l);
+    }
+
+-- the text with its minus, or without
+sign-off : (t : List ℕ) → t ≡ minusIf (starts minusByte t) ++ cond (starts minusByte t) (drop 1 t) t
+sign-off t = go (starts minusByte t) (starts-with minusByte t)
+  where
+    go : (s : Bool) → (s ≡ true → t ≡ minusByte ∷ drop 1 t) → t ≡ minusIf s ++ cond s (drop 1 t) t
+    go true f = f refl
+    go false f = refl
+
+point-on : (l : List ℕ) → 1 ≤ length l → pointOf l ≡ pointByte ∷ l
+point-on [] h = absurd (omega arith)
+point-on (d ∷ l) h = refl
+
+together : (s : Bool) (a b c rest t u v : List ℕ) → t ≡ minusIf s ++ u → u ≡ a ++ v → v ≡ b ++ rest → b ≡ c → t ≡ (minusIf s ++ (a ++ c)) ++ rest
+together s a b c rest t u v p q r e = rw (p, q, r, e, append-assoc, append-assoc)
+
+module _ (w f : ℕ) (W : w + f ≤ 15) (t : List ℕ) (x : Float) (rest : List ℕ) where
+  -- the text after the sign, and the sign
+  module _ (s : Bool) (u : List ℕ) (T : t ≡ minusIf s ++ u) where
+    first : {n c : ℕ} (v : List ℕ) → Ran w u n c v → u ≡ run u ++ v
+    first v p = run-past u ∙ ap (λ (l : List ℕ). run u ++ l) (sym (p .rest))
+
+    after-nearest : (b : Bool) (n c : ℕ) (v : List ℕ) → Ran w u n c v → starts pointByte v ≡ b → afterWhole b f s n v ≡ got x rest → Written w f t rest x
+    after-nearest true n c v p e h = go (digitsOf f (drop 1 v)) refl h
+      where
+        go : (r : Parse Digits) → digitsOf f (drop 1 v) ≡ r → andThen r (withPart s n) ≡ got x rest → Written w f t rest x
+        go (got (digits m k) z) e' h =
+            let q = ran f (drop 1 v) m k z e' in
+            let g = same-got (decimal s n m k) x z rest h in
+            let ds = run (drop 1 v) in
+            let left : rest ≡ past (drop 1 v) = g .1 ∙ q .rest in
+            let on : v ≡ pointByte ∷ (ds ++ rest) = starts-with pointByte v e ∙ ap (λ (l : List ℕ). pointByte ∷ l) (run-past (drop 1 v) ∙ ap (λ (l : List ℕ). ds ++ l) (sym left)) in
+            let a : n ≡ valueOf 0 (run u) = p .value in
+            let b : m ≡ valueOf 0 ds = q .value in
+            let c : k ≡ length ds = q .count in
+            near w f W (record { minus = s; whole = run u; part = ds }) t rest x
+            (record {
+              text = together s (run u) (pointByte ∷ ds) (pointOf ds) rest t u v T (first v p) on (sym (point-on ds (q .some)));
+              digits-before = run-digits u;
+              digits-after = run-digits (drop 1 v);
+              some-before = p .some;
+              few-before = p .few;
+              few-after = q .few;
+              no-digit = ap run left ∙ past-none (drop 1 v);
+              no-point = no-digits ds (q .some);
+            })
+            (g .0 ∙ cc)
+        go wrong e' h = absurd (not-got x rest h)
+    after-nearest false n c v p e h =
+        let g = same-got (decimal s n 0 0) x v rest h in
+        let a : n ≡ valueOf 0 (run u) = p .value in
+        near w f W (record { minus = s; whole = run u; part = [] }) t rest x
+        (record {
+          text = together s (run u) [] [] rest t u v T (first v p) (sym (g .1)) refl;
+          digits-before = run-digits u;
+          digits-after = tt;
+          some-before = p .some;
+          few-before = p .few;
+          few-after = zero-le;
+          no-digit = ap run (g .1 ∙ p .rest) ∙ past-none u;
+          no-point = λ _. ap (starts pointByte) (g .1) ∙ e;
+        })
+        (g .0 ∙ cc)
+
+    unsigned-nearest : unsigned w f s u ≡ got x rest → Written w f t rest x
+    unfolding unsigned
+    unsigned-nearest = go (digitsOf w u) refl
+      where
+        go : (r : Parse Digits) → digitsOf w u ≡ r → andThen r (withWhole f s) ≡ got x rest → Written w f t rest x
+        go (got (digits n c) v) e h = after-nearest (starts pointByte v) n c v (ran w u n c v e) refl h
+        go wrong e h = absurd (not-got x rest h)
+
+pub number-nearest : (w f : ℕ) → w + f ≤ 15 → (t : List ℕ) (x : Float) (rest : List ℕ) → number w f t ≡ got x rest → Written w f t rest x
 unfolding number
-number-nearest w f W t x rest h = unsigned-nearest w f W (starts 45 t) x rest (cond (starts 45 t) (drop 1 t) t) h
+number-nearest w f W t x rest h = unsigned-nearest w f W t x rest (starts minusByte t) (cond (starts minusByte t) (drop 1 t) t) (sign-off t) h
+
+-- ---- and every numeral that stands there is read, to the end of it
+not-minus : (d : ℕ) → Digit d → eqb d minusByte ≡ false
+not-minus d h = let a : 48 ≤ d = leb-true 48 d (and-eq-true-iff (leb 48 d) (leb d 57) .0 h .0) in ne-eqb d 45 (λ e. omega arith)
+
+part-read : (f : ℕ) (s : Bool) (n : ℕ) (part rest : List ℕ) → All Digit part → length part ≤ f → run rest ≡ [] → (part ≡ [] → starts pointByte rest ≡ false)
+    → afterWhole (starts pointByte (pointOf part ++ rest)) f s n (pointOf part ++ rest) ≡ got (decimal s n (valueOf 0 part) (length part)) rest
+part-read f s n [] rest d l e p = let q = p refl in rw q
+part-read f s n (b ∷ part) rest d l e p = rw (reads f (b ∷ part) rest d e (omega arith) l)
+
+point-run : (part rest : List ℕ) → run rest ≡ [] → run (pointOf part ++ rest) ≡ []
+point-run [] rest e = e
+point-run (b ∷ part) rest e = refl
+
+unsigned-read : (w f : ℕ) (n : Numeral) (t rest : List ℕ) → Stands w f n t rest → unsigned w f (n .minus) (n .whole ++ (pointOf (n .part) ++ rest)) ≡ got (floatOf n) rest
+unfolding unsigned
+unsigned-read w f n t rest h =
+    rw (reads w (n .whole) (pointOf (n .part) ++ rest) (h .digits-before) (point-run (n .part) rest (h .no-digit)) (h .some-before) (h .few-before))
+    (part-read f (n .minus) (valueOf 0 (n .whole)) (n .part) rest (h .digits-after) (h .few-after) (h .no-digit) (h .no-point))
+
+signed-read : (w f : ℕ) (s : Bool) (whole : List ℕ) (u : List ℕ) → All Digit whole → 1 ≤ length whole → number w f (minusIf s ++ (whole ++ u)) ≡ unsigned w f s (whole ++ u)
+unfolding number
+signed-read w f true whole u d h = refl
+signed-read w f false [] u d h = absurd (omega arith)
+signed-read w f false (b ∷ whole) u d h = let e = not-minus b (d .0) in rw e
+
+pub number-read : (w f : ℕ) (n : Numeral) (t rest : List ℕ) → Stands w f n t rest → number w f t ≡ got (floatOf n) rest
+number-read w f n t rest h =
+    ap (number w f) (h .text ∙ simp append-assoc)
+    ∙ signed-read w f (n .minus) (n .whole) (pointOf (n .part) ++ rest) (h .digits-before) (h .some-before)
+    ∙ unsigned-read w f n t rest h
 
 -- ---- more digits allowed after the point: what was read is read as before
 more : (f g : ℕ) → f ≤ g → (t : List ℕ) (d : Digits) (u : List ℕ) → digitsOf f t ≡ got d u → digitsOf g t ≡ got d u

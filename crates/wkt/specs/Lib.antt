@@ -3,6 +3,7 @@ pub mod Limits
 pub mod Words
 pub mod Parse
 pub mod Number
+pub mod Numeral
 pub mod Nearest
 pub mod Grammar
 pub mod Answer

@@ -1,5 +1,6 @@
 -- The words of the text, as bytes: OGC 06-103r4, Well-Known Text, in the spacing of document 01.
 -- Definitions only.
+use mathlib.Core.Bool.{Bool, true, false}
 use mathlib.Core.List.{List, [], _∷_}
 use Prim.Native.Nat.{ℕ}
 use Prim.Native.Char.{code}
@@ -13,6 +14,11 @@ bytes (S._∷_ c s) = code c ∷ bytes s
 -- the byte that tells how the text goes on
 abbrev pub minusByte : ℕ
 minusByte = code "-"
+
+-- a minus, or nothing
+abbrev pub minusIf : Bool → List ℕ
+minusIf true = minusByte ∷ []
+minusIf false = []
 
 abbrev pub pointByte : ℕ
 pointByte = code "."

@@ -1,6 +1,6 @@
 // Reading the text program's input: a post and polygons in Well-Known Text (document 01, "The text program"; OGC 06-103r4).
 // What a text means stands in specs/Grammar.antt, on lists and without a cursor; here a cursor runs over the bytes once, each
-// point is stored where there is room for it, and all are counted. `read_input` is the one call from outside.
+// point is stored where there is room for it, and all are counted. `read_input` is the one call from outside; printing uses `ten_to` too.
 ghost use mathlib.Core.Path.{_≡_};
 ghost use mathlib.Core.Bool.{_&&_};
 ghost use mathlib.Core.List.{[], _∷_};

@@ -14,9 +14,9 @@ use borrow.Author.Tests.{lt-ltb}
 use lib.Ieee.{Float, fin, up, down, lt, ofBits, binary64}
 use lib.Ieee.Fits.{down-pos}
 use lib.Ieee.Nearest.{closest}
-use Rattle.wkt.specs.Words.{comma, ringEnd}
+use Rattle.wkt.specs.Words.{minusIf, comma, ringEnd}
 use Rattle.wkt.specs.Grammar.{Point, point}
-use Rattle.wkt_print.specs.Decimal.{scaledOf, fixed, wholeText, minusIf, decimalText, shown, tooLarge}
+use Rattle.wkt_print.specs.Decimal.{scaledOf, fixed, wholeText, decimalText, shown, tooLarge}
 use Rattle.wkt_print.specs.Lines.{pointsOf, pointText, listText, polygonText, refusedText}
 use Rattle.wkt_print.proofs.Bits.{closest-under, scaled-bound, whole-bound}
 use Rattle.wkt_print.proofs.Widths.{width-le, length-fixed}

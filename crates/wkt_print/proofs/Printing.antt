@@ -12,9 +12,9 @@ use lib.Dec.{eqb}
 use lib.Ieee.{Float, nan, lt, ofBits, binary64}
 use Rattle.lists.proofs.Parts.{drop-here}
 use Rattle.lists.proofs.Stores.{sets-append}
-use Rattle.wkt.specs.Words.{comma, ringWord, ringEnd, emptyLine}
+use Rattle.wkt.specs.Words.{minusIf, comma, ringWord, ringEnd, emptyLine}
 use Rattle.wkt.specs.Grammar.{point}
-use Rattle.wkt_print.specs.Decimal.{scaledOf, fixed, wholeText, minusIf, shown, Printed}
+use Rattle.wkt_print.specs.Decimal.{scaledOf, fixed, wholeText, shown, Printed}
 use Rattle.wkt_print.specs.Lines.{pointsOf, pointText, listText, polygonText}
 
 module _ {l l1 : List ℕ} {at i : ℕ} where

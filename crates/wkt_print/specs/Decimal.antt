@@ -1,7 +1,7 @@
 -- How a float is printed (document 01, "The text program"): with `places` decimals, the exact value rounded to nearest and halves to even,
 -- never a signed zero. Definitions only.
 use mathlib.Core.Path.{_≡_}
-use mathlib.Core.Bool.{Bool, true, false, not, _&&_, cond}
+use mathlib.Core.Bool.{Bool, not, _&&_, cond}
 use mathlib.Core.List.{List, [], _∷_, _++_}
 use Prim.Native.Nat.{ℕ, zero, suc, _+_, _*_, _/_, _%_, _^_}
 use lib.Dec.{ltb, eqb}
@@ -9,7 +9,7 @@ use lib.ListN.{length}
 use lib.Seq.{sets}
 use lib.Ieee.{Float, nan, inf, fin, up, down, lt, ofBits, binary64}
 use lib.Ieee.Nearest.{closest}
-use Rattle.wkt.specs.Words.{minusByte, pointByte}
+use Rattle.wkt.specs.Words.{minusIf, pointByte}
 
 -- Sizes below 2 ^ 25 have a decimal here. (A coordinate is at most 1,000,000, so an outline's is about 2,000,000 at most.)
 abbrev pub tooLarge : ℕ
@@ -38,10 +38,6 @@ width n = widthFrom 10 1 n
 
 abbrev pub wholeText : ℕ → List ℕ
 wholeText n = fixed (width n) n
-
-abbrev pub minusIf : Bool → List ℕ
-minusIf true = minusByte ∷ []
-minusIf false = []
 
 -- the number q / 10 ^ places, with a minus where it is asked for and q is not 0
 abbrev pub decimalText : ℕ → Bool → ℕ → List ℕ

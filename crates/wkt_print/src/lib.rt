@@ -8,8 +8,9 @@ ghost use lib.Dec.{eqb};
 ghost use lib.ListN.{length, getD};
 ghost use lib.Ieee.{lt, ofBits, binary64};
 ghost use lib.Ieee.Nearest.{closest};
+ghost use Rattle.wkt.specs.Words.{minusIf};
 ghost use Rattle.wkt.specs.Grammar.{point};
-ghost use Rattle.wkt_print.specs.Decimal.{scaledOf, fixed, width, wholeText, minusIf, shown, Printed};
+ghost use Rattle.wkt_print.specs.Decimal.{scaledOf, fixed, width, wholeText, shown, Printed};
 ghost use Rattle.wkt_print.specs.Lines.{pointsOf, pointText, listText, polygonText, refusedText};
 
 fn two_to(k: u64) -> u64

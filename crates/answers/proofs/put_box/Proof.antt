@@ -1,6 +1,6 @@
 -- `put_box`: the box or zeros. Assumes nothing.
 use mathlib.Core.Path.{sym, ap}
-use Rattle.answers.specs.Numbers.{shapeFour}
+use Rattle.scene.specs.Numbers.{shapeFour}
 use borrow.Author.Needs.{needs}
 use Rattle.answers.proofs.put_box.Statement.{statement}
 use Rattle.answers.proofs.put_box.Tie as tie

@@ -1,6 +1,6 @@
 -- `put_ends`: both ends, or zeros. Assumes nothing.
 use mathlib.Core.Path.{sym, ap}
-use Rattle.answers.specs.Numbers.{segmentFour}
+use Rattle.scene.specs.Numbers.{segmentFour}
 use borrow.Author.Needs.{needs}
 use Rattle.answers.proofs.put_ends.Statement.{statement}
 use Rattle.answers.proofs.put_ends.Tie as tie

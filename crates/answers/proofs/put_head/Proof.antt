@@ -1,6 +1,6 @@
 -- `put_head`: the six floats of the head, or zeros. Assumes nothing.
 use mathlib.Core.Path.{sym, ap}
-use Rattle.answers.specs.Numbers.{madeFloats}
+use Rattle.build.specs.Numbers.{madeFloats}
 use borrow.Author.Needs.{needs}
 use Rattle.answers.proofs.put_head.Statement.{statement}
 use Rattle.answers.proofs.put_head.Tie as tie

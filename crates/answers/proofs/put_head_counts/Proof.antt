@@ -1,6 +1,6 @@
 -- `put_head_counts`: the five numbers of the head, or zeros. Assumes nothing.
 use mathlib.Core.Path.{sym, ap}
-use Rattle.answers.specs.Numbers.{madeCounts}
+use Rattle.build.specs.Numbers.{madeCounts}
 use borrow.Author.Needs.{needs}
 use Rattle.answers.proofs.put_head_counts.Statement.{statement}
 use Rattle.answers.proofs.put_head_counts.Tie as tie

@@ -1,6 +1,6 @@
 -- `put_look`: hit, edge and cells, or zeros. Assumes nothing.
 use mathlib.Core.Path.{sym, ap}
-use Rattle.answers.specs.Numbers.{lookThree}
+use Rattle.scene.specs.Numbers.{lookThree}
 use borrow.Author.Needs.{needs}
 use Rattle.answers.proofs.put_look.Statement.{statement}
 use Rattle.answers.proofs.put_look.Tie as tie

@@ -1,6 +1,6 @@
 -- `put_place`: first point and number of points, or zeros. Assumes nothing.
 use mathlib.Core.Path.{sym, ap}
-use Rattle.answers.specs.Numbers.{shapePlace}
+use Rattle.scene.specs.Numbers.{shapePlace}
 use borrow.Author.Needs.{needs}
 use Rattle.answers.proofs.put_place.Statement.{statement}
 use Rattle.answers.proofs.put_place.Tie as tie

@@ -1,5 +1,5 @@
 -- `site_of`: the head of eleven numbers. Assumes nothing.
-use Rattle.answers.specs.Numbers.{siteOf}
+use Rattle.answers.specs.Head.{siteOf}
 use borrow.Author.Needs.{needs}
 use Rattle.answers.proofs.site_of.Statement.{statement}
 use Rattle.answers.proofs.site_of.Tie as tie

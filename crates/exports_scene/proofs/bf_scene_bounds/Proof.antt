@@ -1,6 +1,6 @@
 -- `bf_scene_bounds`: the answer of `scene`, as numbers. Assumes nothing.
 use mathlib.Core.Path.{ap, _∙_}
-use Rattle.answers.specs.Numbers.{boundsStatus, boundsFour}
+use Rattle.scene.specs.Numbers.{boundsStatus, boundsFour}
 use borrow.Author.Needs.{needs}
 use Rattle.exports_scene.proofs.bf_scene_bounds.Statement.{statement}
 use Rattle.exports_scene.proofs.bf_scene_bounds.Tie as tie

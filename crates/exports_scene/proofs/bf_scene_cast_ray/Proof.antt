@@ -1,6 +1,6 @@
 -- `bf_scene_cast_ray`: the answer of `scene`, as numbers. Assumes nothing.
 use mathlib.Core.Path.{ap, _∙_}
-use Rattle.answers.specs.Numbers.{lookStatus, lookDistance, lookThree}
+use Rattle.scene.specs.Numbers.{lookStatus, lookDistance, lookThree}
 use borrow.Author.Needs.{needs}
 use Rattle.exports_scene.proofs.bf_scene_cast_ray.Statement.{statement}
 use Rattle.exports_scene.proofs.bf_scene_cast_ray.Tie as tie

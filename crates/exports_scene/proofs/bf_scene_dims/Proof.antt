@@ -1,6 +1,6 @@
 -- `bf_scene_dims`: the answer of `scene`, as numbers. Assumes nothing.
 use mathlib.Core.Path.{ap, _∙_}
-use Rattle.answers.specs.Numbers.{dimsStatus, dimsTwo}
+use Rattle.scene.specs.Numbers.{dimsStatus, dimsTwo}
 use borrow.Author.Needs.{needs}
 use Rattle.exports_scene.proofs.bf_scene_dims.Statement.{statement}
 use Rattle.exports_scene.proofs.bf_scene_dims.Tie as tie

@@ -1,6 +1,6 @@
 -- `bf_scene_edge`: the answer of `scene`, as numbers. Assumes nothing.
 use mathlib.Core.Path.{ap, _∙_}
-use Rattle.answers.specs.Numbers.{segmentStatus, segmentFour}
+use Rattle.scene.specs.Numbers.{segmentStatus, segmentFour}
 use borrow.Author.Needs.{needs}
 use Rattle.exports_scene.proofs.bf_scene_edge.Statement.{statement}
 use Rattle.exports_scene.proofs.bf_scene_edge.Tie as tie

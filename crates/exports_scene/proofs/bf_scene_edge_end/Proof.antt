@@ -1,6 +1,6 @@
 -- `bf_scene_edge_end`: the answer of `scene`, as numbers. Assumes nothing.
 use mathlib.Core.Path.{ap, _∙_}
-use Rattle.answers.specs.Numbers.{indexStatus, indexValue}
+use Rattle.scene.specs.Numbers.{indexStatus, indexValue}
 use borrow.Author.Needs.{needs}
 use Rattle.exports_scene.proofs.bf_scene_edge_end.Statement.{statement}
 use Rattle.exports_scene.proofs.bf_scene_edge_end.Tie as tie

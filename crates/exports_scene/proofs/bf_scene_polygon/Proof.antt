@@ -1,6 +1,6 @@
 -- `bf_scene_polygon`: the answer of `scene`, as numbers. Assumes nothing.
 use mathlib.Core.Path.{ap, _∙_}
-use Rattle.answers.specs.Numbers.{shapeStatus, shapePlace, shapeFour}
+use Rattle.scene.specs.Numbers.{shapeStatus, shapePlace, shapeFour}
 use borrow.Author.Needs.{needs}
 use Rattle.exports_scene.proofs.bf_scene_polygon.Statement.{statement}
 use Rattle.exports_scene.proofs.bf_scene_polygon.Tie as tie

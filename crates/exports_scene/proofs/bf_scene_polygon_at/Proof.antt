@@ -1,6 +1,6 @@
 -- `bf_scene_polygon_at`: the answer of `scene`, as numbers. Assumes nothing.
 use mathlib.Core.Path.{ap, _∙_}
-use Rattle.answers.specs.Numbers.{foundStatus, foundTwo}
+use Rattle.scene.specs.Numbers.{foundStatus, foundTwo}
 use borrow.Author.Needs.{needs}
 use Rattle.exports_scene.proofs.bf_scene_polygon_at.Statement.{statement}
 use Rattle.exports_scene.proofs.bf_scene_polygon_at.Tie as tie

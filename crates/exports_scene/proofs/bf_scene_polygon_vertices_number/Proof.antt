@@ -1,6 +1,6 @@
 -- `bf_scene_polygon_vertices_number`: the answer of `scene`, as numbers. Assumes nothing.
 use mathlib.Core.Path.{ap, _∙_}
-use Rattle.answers.specs.Numbers.{countStatus, countValue}
+use Rattle.scene.specs.Numbers.{countStatus, countValue}
 use borrow.Author.Needs.{needs}
 use Rattle.exports_scene.proofs.bf_scene_polygon_vertices_number.Statement.{statement}
 use Rattle.exports_scene.proofs.bf_scene_polygon_vertices_number.Tie as tie

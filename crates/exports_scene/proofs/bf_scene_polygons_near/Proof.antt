@@ -1,5 +1,5 @@
 -- `bf_scene_polygons_near`: every part of the outcome of `scene`. Assumes nothing.
-use Rattle.answers.proofs.Outcomes.{lists}
+use Rattle.grid.proofs.Numbers.{lists}
 use borrow.Author.Needs.{needs}
 use Rattle.exports_scene.proofs.bf_scene_polygons_near.Statement.{statement}
 use Rattle.exports_scene.proofs.bf_scene_polygons_near.Tie as tie

@@ -1,6 +1,6 @@
 -- `bf_scene_width`: the answer of `scene`, as numbers. Assumes nothing.
 use mathlib.Core.Path.{ap, _∙_}
-use Rattle.answers.specs.Numbers.{extentStatus, extentValue}
+use Rattle.scene.specs.Numbers.{extentStatus, extentValue}
 use borrow.Author.Needs.{needs}
 use Rattle.exports_scene.proofs.bf_scene_width.Statement.{statement}
 use Rattle.exports_scene.proofs.bf_scene_width.Tie as tie

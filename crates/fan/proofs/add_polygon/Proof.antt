@@ -1,6 +1,7 @@
 -- `fan::add_polygon`: a polygon out of range gives nothing, and any other is a candidate. Assumes nothing.
 use Rattle.fan.specs.Fan.{polygonFan}
-use Rattle.fan.proofs.Adding.{or-false, added-none, added-counts, added-both}
+use mathlib.Core.Bool.{or-false}
+use Rattle.fan.proofs.Adding.{added-none, added-counts, added-both}
 use mathlib.Core.Bool.{false}
 use mathlib.Core.Path.{refl, sym, _∙_}
 use borrow.Author.Needs.{needs}

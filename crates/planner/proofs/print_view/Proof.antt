@@ -4,7 +4,7 @@ use native.Mathlib.Nat.{le-of-eq}
 use lib.ListN.{replicate}
 use Rattle.num.specs.Ops.{zeroF}
 use Rattle.site.specs.Tables.{tables}
-use Rattle.visibility.specs.Outcome.{lent}
+use Rattle.view.specs.Outcome.{lent}
 use Rattle.planner.specs.Rooms.{workRoom}
 use Rattle.planner.proofs.Ways.{view-seen, view-refused}
 use borrow.Author.Needs.{needs}

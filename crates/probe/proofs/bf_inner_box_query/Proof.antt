@@ -1,5 +1,5 @@
 -- `probe::bf_inner_box_query` meets its contract. Assumes nothing.
-use Rattle.probe.proofs.Answers.{lists}
+use Rattle.grid.proofs.Numbers.{lists}
 use borrow.Author.Needs.{needs}
 use Rattle.probe.proofs.bf_inner_box_query.Statement.{statement}
 use Rattle.probe.proofs.bf_inner_box_query.Tie as tie

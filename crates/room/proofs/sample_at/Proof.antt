@@ -37,8 +37,8 @@ add-at32-2 c = search needs
 at32-requires-2 : tie.Need-at32-requires-2
 at32-requires-2 c κs = search needs
 
-cast-of-requires : tie.Need-cast-of-requires
-cast-of-requires c κs = search needs
+cast-from-requires : tie.Need-cast-from-requires
+cast-from-requires c κs = search needs
 
 samples-f-requires : tie.Need-samples-f-requires
 samples-f-requires c κs = search needs
@@ -60,7 +60,7 @@ at32-requires-4 c κs = search needs
 
 returns : tie.Need-returns
 unfolding sampleAt
-returns c = simp (c .at324 .ensures, c .before .at323 .ensures, c .before .before .at642 .ensures, c .before .before .before .samples-f .ensures, c .before .before .before .before .cast-of .ensures, c .before .before .before .before .before .at322 .ensures, c .before .before .before .before .before .before .at64 .ensures, c .before .before .before .before .before .before .before .distances-f .ensures, c .before .before .before .before .before .before .before .before .at32 .ensures, c .before .before .before .before .before .before .before .before .before .samples-w .ensures, c .before .before .before .before .before .before .before .before .before .before .wide .ensures)
+returns c = simp (c .at324 .ensures, c .before .at323 .ensures, c .before .before .at642 .ensures, c .before .before .before .samples-f .ensures, c .before .before .before .before .cast-from .ensures, c .before .before .before .before .before .at322 .ensures, c .before .before .before .before .before .before .at64 .ensures, c .before .before .before .before .before .before .before .distances-f .ensures, c .before .before .before .before .before .before .before .before .at32 .ensures, c .before .before .before .before .before .before .before .before .before .samples-w .ensures, c .before .before .before .before .before .before .before .before .before .before .wide .ensures)
 
 pub sample-at-spec : {M : Type 1} → statement M
 sample-at-spec =
@@ -77,7 +77,7 @@ sample-at-spec =
     at64-requires
     add-at32-2
     at32-requires-2
-    cast-of-requires
+    cast-from-requires
     samples-f-requires
     add-at64-2
     at64-requires-2

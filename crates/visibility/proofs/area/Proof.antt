@@ -1,5 +1,5 @@
 -- `area`: the absolute value of the signed area. Assumes nothing.
-use Rattle.visibility.specs.Drawing.{areaOf}
+use Rattle.visibility.specs.Beside.{areaOf}
 use Rattle.num.specs.Num.{absOf}
 use mathlib.Core.Path.{ap, _∙_}
 use borrow.Author.Needs.{needs}

@@ -1,6 +1,6 @@
 -- `wkt_print::put_minus` meets its contract. Assumes nothing.
 use Rattle.wkt_print.proofs.Printing.{say, byte, nothing}
-use Rattle.wkt_print.specs.Decimal.{minusIf}
+use Rattle.wkt.specs.Words.{minusIf}
 use mathlib.Core.Path.{refl, sym, ap}
 use borrow.Author.Needs.{needs}
 use Rattle.wkt_print.proofs.put_minus.Statement.{statement}

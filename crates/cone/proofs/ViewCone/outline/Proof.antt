@@ -1,69 +1,66 @@
--- `cone::ViewCone::outline` meets its contract: a circle, or the origin and an arc (proofs/Arcs.antt). Assumes nothing.
-use Prim.Native.Nat.{_+_}
+-- `cone::ViewCone::outline` meets its contract: refused, or drawn and the rest cleared (proofs/Outlining.antt). Assumes nothing.
+use mathlib.Core.Path.{sym, _∙_}
 use native.Mathlib.Omega.{arith}
-use Rattle.cone.proofs.FewSteps.{few-steps}
-use Rattle.cone.proofs.Arcs.{circle-drawn, sector-drawn}
+use borrow.Author.Tests.{not-true, not-false}
 use borrow.Author.Needs.{needs}
+use Rattle.cone.proofs.FewSteps.{few-points}
+use Rattle.cone.proofs.Outlining.{way-one, way-eight, way-laid}
 use Rattle.cone.proofs.ViewCone.outline.Statement.{statement}
 use Rattle.cone.proofs.ViewCone.outline.Tie as tie
 
-reach-requires : tie.Need-reach-requires
-reach-requires c κs = search needs
+in-domain-requires : tie.Need-in-domain-requires
+in-domain-requires c κs = search needs
 
-view-of-requires : tie.Need-view-of-requires
-view-of-requires c κs = search needs
+returns : tie.Need-returns
+returns c = way-one _ _ _ (sym (c .before .in-domain .ensures) ∙ not-true _ (c .if1 .taken))
 
-steps-requires : tie.Need-steps-requires
-steps-requires c κs = search needs
+loaded-requires : tie.Need-loaded-requires
+loaded-requires c κs = search needs
 
-put-arc-requires : tie.Need-put-arc-requires
-put-arc-requires c κs = omega (arith, c .before .before .steps .ensures, few-steps (c .before .before .before .before .before .before .args .self) (c .before .before .before .before .before .before .args .tolerance))
+load-requires : tie.Need-load-requires
+load-requires c κs = search needs
 
-wide-requires : tie.Need-wide-requires
-wide-requires c κs = search needs
+draw-requires : tie.Need-draw-requires
+draw-requires c κs = search needs
+
+mul-end : tie.Need-mul-end
+mul-end c = omega (arith, c .before .before .draw .ensures .count, few-points (c .before .before .before .before .before .loaded .result) (c .before .before .before .before .load .result))
+
+clear64-requires : tie.Need-clear64-requires
+clear64-requires c κs = search needs
 
 same-length : tie.Need-same-length
 same-length c = search needs
 
-returns : tie.Need-returns
-returns c = circle-drawn (c .before .before .before .before .before .before .before .before .before .before .args .self) (c .before .before .before .before .before .before .before .before .before .before .args .tolerance) (c .before .before .before .before .before .before .before .view-of .result) (c .before .before .before .before .before .before .before .before .reach .result) (c .before .before .before .before .before .before .steps .result) (c .wide .result) (c .before .before .before .before .before .before .before .view-of .ensures) (c .before .before .before .before .before .before .before .before .reach .ensures) (c .before .before .before .before .before .before .steps .ensures) _ _ (c .before .before .before .before .before .if1 .taken) (c .before .before .before .put-arc .ensures) (c .wide .ensures)
+returns-2 : tie.Need-returns-2
+returns-2 c =
+    way-eight _ _ _ _ _ (sym (c .before .before .before .before .before .before .before .before .before .before .before .before .in-domain .ensures) ∙ not-false _ (c .before .before .before .before .before .before .before .before .before .before .before .if1 .left)) (c .before .before .before .before .before .before .before .before .before .before .loaded .ensures) (c .before .before .before .before .before .before .before .before .before .load .ensures) (c .before .before .before .before .before .before .before .draw .ensures) (c .before .before .before .before .before .before .before .draw .kept .1 .1 .0)
+    (c .before .before .before .before .if2 .taken) (c .before .before .clear64 .ensures)
 
-put-point-requires : tie.Need-put-point-requires
-put-point-requires c κs = search needs
-
-add-put-arc : tie.Need-add-put-arc
-add-put-arc c = omega (arith, c .before .before .before .before .before .steps .ensures, few-steps (c .before .before .before .before .before .before .before .before .before .args .self) (c .before .before .before .before .before .before .before .before .before .args .tolerance))
-
-put-arc-requires-2 : tie.Need-put-arc-requires-2
-put-arc-requires-2 c κs = omega (arith, c .before .before .before .before .before .before .steps .ensures, few-steps (c .before .before .before .before .before .before .before .before .before .before .args .self) (c .before .before .before .before .before .before .before .before .before .before .args .tolerance))
-
-wide-requires-2 : tie.Need-wide-requires-2
-wide-requires-2 c κs = search needs
-
-add-result : tie.Need-add-result
-add-result c = search needs
+clear-from64-requires : tie.Need-clear-from64-requires
+clear-from64-requires c κs = search needs
 
 same-length-2 : tie.Need-same-length-2
 same-length-2 c = search needs
 
-returns-2 : tie.Need-returns-2
-returns-2 c = sector-drawn (c .before .before .before .before .before .before .before .before .before .before .before .before .before .before .args .self) (c .before .before .before .before .before .before .before .before .before .before .before .before .before .before .args .tolerance) (c .before .before .before .before .before .before .before .before .before .before .before .view-of .result) (c .before .before .before .before .before .before .before .before .before .before .before .before .reach .result) (c .before .before .before .before .before .before .before .before .before .before .steps .result) (c .wide2 .result + 2) (c .before .before .before .before .before .before .before .before .before .before .before .view-of .ensures) (c .before .before .before .before .before .before .before .before .before .before .before .before .reach .ensures) (c .before .before .before .before .before .before .before .before .before .before .steps .ensures) _ _ (c .before .before .before .before .before .before .before .put-point .last .0) (c .before .before .before .before .before .before .before .before .before .if1 .left) (c .before .before .before .before .before .before .before .put-point .ensures) (c .before .before .before .put-arc2 .ensures) (omega (arith, c .wide2 .ensures))
+returns-3 : tie.Need-returns-3
+returns-3 c =
+    way-laid _ _ _ _ _ (sym (c .before .before .before .before .before .before .before .before .before .before .before .before .in-domain .ensures) ∙ not-false _ (c .before .before .before .before .before .before .before .before .before .before .before .if1 .left)) (c .before .before .before .before .before .before .before .before .before .before .loaded .ensures) (c .before .before .before .before .before .before .before .before .before .load .ensures) (c .before .before .before .before .before .before .before .draw .ensures) (c .before .before .before .before .before .before .before .draw .kept .1 .1 .0)
+    (c .before .before .before .before .if2 .left) (c .before .before .clear-from64 .ensures)
 
 pub outline-spec : {M : Type 1} → statement M
 outline-spec =
     tie.close
     (tie.spec
-    reach-requires
-    view-of-requires
-    steps-requires
-    put-arc-requires
-    wide-requires
-    same-length
+    in-domain-requires
     returns
-    put-point-requires
-    add-put-arc
-    put-arc-requires-2
-    wide-requires-2
-    add-result
+    loaded-requires
+    load-requires
+    draw-requires
+    mul-end
+    clear64-requires
+    same-length
+    returns-2
+    clear-from64-requires
     same-length-2
-    returns-2)
+    returns-3)

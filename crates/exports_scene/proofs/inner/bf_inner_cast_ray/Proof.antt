@@ -1,7 +1,7 @@
 -- `bf_inner_cast_ray`: the answer of `sight`, as numbers. Assumes nothing.
 use mathlib.Core.Path.{refl, ap, _∙_}
 use Rattle.scene.specs.Answers.{lookFrom}
-use Rattle.answers.specs.Numbers.{lookDistance, lookThree}
+use Rattle.scene.specs.Numbers.{lookDistance, lookThree}
 use borrow.Author.Needs.{needs}
 use Rattle.exports_scene.proofs.inner.bf_inner_cast_ray.Statement.{statement}
 use Rattle.exports_scene.proofs.inner.bf_inner_cast_ray.Tie as tie

@@ -1,6 +1,6 @@
 -- `bf_inner_polygon_at`: the answer of `sight`, as numbers. Assumes nothing.
 use mathlib.Core.Path.{refl, ap, _∙_}
-use Rattle.answers.specs.Numbers.{whoseTwo}
+use Rattle.scene.specs.Numbers.{whoseTwo}
 use borrow.Author.Needs.{needs}
 use Rattle.exports_scene.proofs.inner.bf_inner_polygon_at.Statement.{statement}
 use Rattle.exports_scene.proofs.inner.bf_inner_polygon_at.Tie as tie

@@ -2,7 +2,7 @@
 use mathlib.Core.Path.{ap, _∙_}
 use native.Mathlib.Omega.{arith}
 use Rattle.sight.specs.declared.Sighting.{Sighting}
-use Rattle.answers.specs.Numbers.{hitOf}
+use Rattle.scene.specs.Numbers.{castHit}
 use Rattle.exports_scene.specs.Many.{hitAt}
 use borrow.Author.Needs.{needs}
 use Rattle.exports_scene.proofs.inner.hit_at.Statement.{statement}
@@ -76,7 +76,7 @@ cast-result c = search needs
 
 returns : tie.Need-returns
 unfolding hitAt
-returns c = c .hit-of .ensures ∙ ap (λ (s : Sighting). hitOf (s .hit)) (c .before .cast-ray .ensures)
+returns c = c .hit-of .ensures ∙ ap (λ (s : Sighting). castHit (s .hit)) (c .before .cast-ray .ensures)
 
 pub hit-at-spec : {M : Type 1} → statement M
 hit-at-spec =

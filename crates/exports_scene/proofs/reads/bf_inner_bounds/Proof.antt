@@ -1,6 +1,6 @@
 -- `bf_inner_bounds`: the bounds of the loaded width and height and the boxes, as numbers. Assumes nothing.
 use mathlib.Core.Path.{refl, ap, _∙_}
-use Rattle.answers.specs.Numbers.{fourOf}
+use Rattle.build.specs.Stored.{boxNumbers}
 use borrow.Author.Needs.{needs}
 use Rattle.exports_scene.proofs.reads.bf_inner_bounds.Statement.{statement}
 use Rattle.exports_scene.proofs.reads.bf_inner_bounds.Tie as tie
@@ -26,7 +26,7 @@ put-bounds-requires c κs = search needs
 returns : tie.Need-returns
 returns c =
     let w = rw (c .before .before .before .load2 .ensures, c .before .before .before .before .load .ensures, c .before .before .before .before .before .wide .ensures, c .before .before .before .before .before .before .site-of .ensures) at (c .before .before .bounds-of .ensures) in
-    (refl, c .put-bounds .ensures ∙ ap fourOf w)
+    (refl, c .put-bounds .ensures ∙ ap boxNumbers w)
 
 pub bf-inner-bounds-spec : {M : Type 1} → statement M
 bf-inner-bounds-spec =

@@ -1,7 +1,7 @@
 -- `bf_inner_edge`: the answer of `site`, as numbers. Assumes nothing.
 use mathlib.Core.Path.{refl, ap, _∙_}
 use Rattle.scene.specs.Answers.{segmentFrom}
-use Rattle.answers.specs.Numbers.{segmentFour}
+use Rattle.scene.specs.Numbers.{segmentFour}
 use borrow.Author.Needs.{needs}
 use Rattle.exports_scene.proofs.reads.bf_inner_edge.Statement.{statement}
 use Rattle.exports_scene.proofs.reads.bf_inner_edge.Tie as tie

@@ -1,6 +1,6 @@
 -- `bf_inner_polygon`: the fields of the polygon, as numbers. Assumes nothing.
 use mathlib.Core.Path.{refl, ap, _∙_}
-use Rattle.answers.specs.Numbers.{fourOf}
+use Rattle.build.specs.Stored.{boxNumbers}
 use borrow.Author.Needs.{needs}
 use Rattle.exports_scene.proofs.reads.bf_inner_polygon.Statement.{statement}
 use Rattle.exports_scene.proofs.reads.bf_inner_polygon.Tie as tie
@@ -27,7 +27,7 @@ returns : tie.Need-returns
 returns c =
     let place = rw (c .before .before .before .before .before .before .len-of .ensures, c .before .before .before .before .before .before .before .first-of .ensures) at (c .before .before .put-place .ensures) in
     let w = rw (c .before .before .before .before .before .wide .ensures) at (c .before .before .before .before .box-at .ensures) in
-    (refl, (place, c .put-box .ensures ∙ ap fourOf w))
+    (refl, (place, c .put-box .ensures ∙ ap boxNumbers w))
 
 pub bf-inner-polygon-spec : {M : Type 1} → statement M
 bf-inner-polygon-spec =

@@ -1,6 +1,6 @@
 -- `put_shown`: the nine numbers of the answer, or zeros. Assumes nothing.
 use mathlib.Core.Path.{sym, ap}
-use Rattle.exports_view.specs.Numbers.{nineOf}
+use Rattle.visibility.specs.Numbers.{nineOf}
 use borrow.Author.Needs.{needs}
 use Rattle.exports_view.proofs.numbers.put_shown.Statement.{statement}
 use Rattle.exports_view.proofs.numbers.put_shown.Tie as tie

@@ -1,0 +1,7 @@
+-- The theorems of `demand`: DemandThree, RefusedWhen and Freely, and under them Calls, Facing and Outlines.
+mod Facing
+pub mod Calls
+pub mod Outlines
+pub mod RefusedWhen
+pub mod Freely
+pub mod DemandThree

@@ -1,0 +1,5 @@
+-- What the theorems of `demand` speak of.
+pub mod Calls
+pub mod Sweeps
+pub mod Demands
+pub mod Unbounded

@@ -1,0 +1,4 @@
+-- What the functions of `stages` mean.
+pub mod Drawing
+pub mod Shows
+pub mod Held

@@ -1,0 +1,3 @@
+-- What the functions of `view` mean.
+pub mod Post
+pub mod Outcome
