@@ -120,6 +120,54 @@ pub struct Cone {
     pub fov: f64,
 }
 
+impl Cone {
+    /// As it is handed over.
+    fn five(self) -> [f64; 5] {
+        [
+            self.post.0,
+            self.post.1,
+            self.range,
+            self.direction,
+            self.fov,
+        ]
+    }
+
+    /// Its own outline, as if nothing stood in it: the status and how many points.
+    pub fn outline(self, tolerance: f64, out: &mut [f64]) -> (u32, u64) {
+        let mut number = u64::MAX;
+        // SAFETY: pointer and length are those of a slice that outlives the call, and the function
+        // has no `requires`.
+        let status = unsafe {
+            bf_cone_outline(
+                &self.five(),
+                tolerance,
+                out.as_mut_ptr(),
+                out.len(),
+                &mut number,
+            )
+        };
+        (status, number)
+    }
+}
+
+/// The area of an outline.
+pub fn area(outline: &[f64]) -> f64 {
+    // SAFETY: as above.
+    unsafe { bf_area(outline.as_ptr(), outline.len()) }
+}
+
+#[link(name = "exports_view", kind = "static")]
+unsafe extern "C" {
+    fn bf_cone_outline(
+        cone: &[f64; 5],
+        tolerance: f64,
+        out: *mut f64,
+        out_len: usize,
+        number: &mut u64,
+    ) -> u32;
+    fn bf_area(outline: *const f64, outline_len: usize) -> f64;
+}
+
 /// The entries allowed to each work list of an outline, in document 01's order: ids of the box query,
 /// front edges, unmerged events, kept-aside corners, samples, bucket starts, angular references,
 /// owners, corners seen at one event.
@@ -519,17 +567,10 @@ impl Lent {
         w: &mut Work,
     ) -> (u32, [u64; 9]) {
         let mut answer = [u64::MAX; 9];
-        let five = [
-            cone.post.0,
-            cone.post.1,
-            cone.range,
-            cone.direction,
-            cone.fov,
-        ];
         let status = ask!(
             f,
             self,
-            &five,
+            &cone.five(),
             tolerance,
             &k,
             w.marks.as_mut_ptr(),

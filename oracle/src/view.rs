@@ -1,14 +1,16 @@
 //! Crate `visibility` against the published `visibility.rs`, with document 01's two substitutions:
 //! outlines, visible ids, every count, blocked, and the stamps, bit for bit (zero's sign apart), in
 //! rooms that are just enough, longer, and one entry short of each need. The Rust's own needs are
-//! counted by the seams of crate `oracle`.
+//! counted by the seams of crate `oracle`. The area of each outline is held against the Rust unaltered.
+//! A cone's own outline is in `cones`.
 
 mod bench;
+mod cones;
 pub mod lines;
 
 pub use bench::bench;
 
-use crate::lent::{Cone, Entries, Lent, PATTERN, Work, room_for};
+use crate::lent::{Cone, Entries, Lent, PATTERN, Work, area, room_for};
 use crate::scene::given::{self, Given};
 use crate::sites::{self, Plan, Point};
 use crate::util::bits::{same, show, step};
@@ -53,7 +55,8 @@ pub fn compare() -> bool {
             held.site(r, &plan);
         }
     }
-    held.print()
+    let sites = held.print();
+    cones::compare() && sites
 }
 
 type Make = fn(&mut SplitMix64) -> Plan;
@@ -268,6 +271,16 @@ pub fn rust(scene: &Scene, c: Cone, tolerance: f64, marks: &[u32], epoch: u32) -
     }
 }
 
+/// `Visibility::area` uses no angle function, so it is the unaltered one.
+fn rust_area(outline: &[f64]) -> f64 {
+    let point = |p: &[f64]| plain::Vec2::new(p[0], p[1]);
+    plain::Visibility {
+        polygon: outline.chunks_exact(2).map(point).collect(),
+        ..Default::default()
+    }
+    .area()
+}
+
 // ---- both sides
 
 #[derive(Clone, Copy)]
@@ -340,6 +353,7 @@ struct Held {
     short: Tally,
     room: Tally,
     refused: Tally,
+    area: Tally,
     seen: Reach,
 }
 
@@ -370,6 +384,7 @@ impl Held {
                 "outside the domain, or marks missing",
                 "1 or 7, nothing written",
             ]),
+            area: Tally::new(["area, of these outlines", "Visibility::area"]),
             seen: Reach::default(),
         }
     }
@@ -464,6 +479,11 @@ impl Held {
             );
         };
         let k = rust.needs;
+        self.area.add(
+            At(plan, c, tolerance, k),
+            area(&rust.outline),
+            rust_area(&rust.outline),
+        );
         held(&mut self.exact, k, room_for(k), points, ids, true);
         let more = k.map(|n| n + r.below(3) as u32);
         let (f, w) = room_for(more);
@@ -580,7 +600,14 @@ impl Held {
 
     fn print(self) -> bool {
         self.seen.print();
-        tally::print(&[self.exact, self.longer, self.short, self.room, self.refused])
+        tally::print(&[
+            self.exact,
+            self.longer,
+            self.short,
+            self.room,
+            self.refused,
+            self.area,
+        ])
     }
 }
 
