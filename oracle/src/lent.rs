@@ -60,7 +60,7 @@ with_site! { u32;
     fn bf_scene_items_at_number(x: f64, y: f64, number: &mut u64);
     fn bf_scene_item_at(x: f64, y: f64, i: usize);
     fn bf_scene_polygon_at(x: f64, y: f64, found: &mut [u32; 2]);
-    fn bf_scene_cast_ray(ox: f64, oy: f64, dx: f64, dy: f64, length: f64, t: &mut f64, found: &mut [u64; 3]);
+    fn bf_scene_cast_ray(ox: f64, oy: f64, dx: f64, dy: f64, length: f64, mode: u32, t: &mut f64, found: &mut [u64; 3]);
     fn bf_scene_edge(edge: u32, ends: &mut [f64; 4]);
     fn bf_scene_edge_end(edge: u32, end: &mut u32);
     fn bf_scene_edge_owner(edge: u32, owner: &mut u32);
@@ -94,7 +94,7 @@ unsafe extern "C" {
 }
 with_site! { u32;
     fn bf_inner_polygon_at(x: f64, y: f64, found: &mut [u32; 2]);
-    fn bf_inner_cast_ray(ox: f64, oy: f64, dx: f64, dy: f64, length: f64, t: &mut f64, found: &mut [u64; 3]);
+    fn bf_inner_cast_ray(ox: f64, oy: f64, dx: f64, dy: f64, length: f64, mode: u32, t: &mut f64, found: &mut [u64; 3]);
     fn bf_inner_site_items_at_number(x: f64, y: f64, number: &mut u64);
     fn bf_inner_edge(edge: u32, ends: &mut [f64; 4]);
     fn bf_inner_edge_end(edge: u32, end: &mut u32);
@@ -130,6 +130,16 @@ impl Cone {
             self.direction,
             self.fov,
         ]
+    }
+
+    /// With no minus at zero.
+    pub fn loaded(self) -> Self {
+        Self {
+            post: (self.post.0 + 0.0, self.post.1 + 0.0),
+            range: self.range + 0.0,
+            direction: self.direction + 0.0,
+            fov: self.fov + 0.0,
+        }
     }
 
     /// Its own outline, as if nothing stood in it: the status and how many points.
@@ -224,6 +234,7 @@ macro_rules! outline_call {
                 items_len: usize,
                 cone: &[f64; 5],
                 tolerance: f64,
+                mode: u32,
                 entries: &[u32; 9],
                 marks: *mut u32,
                 marks_len: usize,
@@ -462,8 +473,15 @@ impl Lent {
         (ask!(bf_scene_polygon_at, self, x, y, &mut found), found)
     }
 
-    /// The status and the distance; whether there is a hit, its edge, and cells entered.
-    pub fn cast_ray(&self, o: (f64, f64), d: (f64, f64), length: f64) -> (u32, f64, [u64; 3]) {
+    /// The status and the distance; whether there is a hit, its edge, and cells entered. The mode is 0
+    /// for the Rust's rule and 1 for ties credited, here and below; any other is refused.
+    pub fn cast_ray(
+        &self,
+        o: (f64, f64),
+        d: (f64, f64),
+        length: f64,
+        mode: u32,
+    ) -> (u32, f64, [u64; 3]) {
         let (mut t, mut found) = (FLOAT, [u64::MAX; 3]);
         let status = ask!(
             bf_scene_cast_ray,
@@ -473,6 +491,7 @@ impl Lent {
             d.0,
             d.1,
             length,
+            mode,
             &mut t,
             &mut found
         );
@@ -486,7 +505,13 @@ impl Lent {
         found
     }
 
-    pub fn inner_cast_ray(&self, o: (f64, f64), d: (f64, f64), length: f64) -> (f64, [u64; 3]) {
+    pub fn inner_cast_ray(
+        &self,
+        o: (f64, f64),
+        d: (f64, f64),
+        length: f64,
+        mode: u32,
+    ) -> (f64, [u64; 3]) {
         let (mut t, mut found) = (FLOAT, [u64::MAX; 3]);
         ask!(
             bf_inner_cast_ray,
@@ -496,6 +521,7 @@ impl Lent {
             d.0,
             d.1,
             length,
+            mode,
             &mut t,
             &mut found
         );
@@ -543,8 +569,15 @@ impl Lent {
 
     /// An outline: the status, and blocked, full, points, visible ids, candidates, front edges, events,
     /// samples and refinements.
-    pub fn outline(&self, cone: Cone, tolerance: f64, k: Entries, w: &mut Work) -> (u32, [u64; 9]) {
-        self.draw(bf_compute_visibility, cone, tolerance, k, w)
+    pub fn outline(
+        &self,
+        cone: Cone,
+        tolerance: f64,
+        mode: u32,
+        k: Entries,
+        w: &mut Work,
+    ) -> (u32, [u64; 9]) {
+        self.draw(bf_compute_visibility, cone, tolerance, mode, k, w)
     }
 
     /// The same without the test of the tables, for a site that building has made.
@@ -552,10 +585,11 @@ impl Lent {
         &self,
         cone: Cone,
         tolerance: f64,
+        mode: u32,
         k: Entries,
         w: &mut Work,
     ) -> (u32, [u64; 9]) {
-        self.draw(bf_inner_compute_visibility, cone, tolerance, k, w)
+        self.draw(bf_inner_compute_visibility, cone, tolerance, mode, k, w)
     }
 
     fn draw(
@@ -563,6 +597,7 @@ impl Lent {
         f: Draw,
         cone: Cone,
         tolerance: f64,
+        mode: u32,
         k: Entries,
         w: &mut Work,
     ) -> (u32, [u64; 9]) {
@@ -572,6 +607,7 @@ impl Lent {
             self,
             &cone.five(),
             tolerance,
+            mode,
             &k,
             w.marks.as_mut_ptr(),
             w.marks.len(),
@@ -593,7 +629,7 @@ impl Lent {
 #[rustfmt::skip]
 type Draw = unsafe extern "C" fn(
     &[f64; 6], &[u32; 5], *const f64, usize, *const f64, usize, *const u32, usize, *const u32, usize, *const u32, usize, *const u32, usize,
-    &[f64; 5], f64, &[u32; 9], *mut u32, usize, &mut u32, *mut f64, usize, *mut u32, usize, *mut f64, usize, *mut u32, usize, &mut [u64; 9],
+    &[f64; 5], f64, u32, &[u32; 9], *mut u32, usize, &mut u32, *mut f64, usize, *mut u32, usize, *mut f64, usize, *mut u32, usize, &mut [u64; 9],
 ) -> u32;
 
 #[link(name = "exports_text", kind = "static")]

@@ -5,7 +5,8 @@
 //! OUT/plain: the published Rust, without rayon's parallel branch (document 01 leaves it behind) and
 //! otherwise as it is.
 //! OUT/oracle: besides, (a) sin, cos, atan2 and acos are ours, (b) the sorts on floats are stable,
-//! and read-only seams show what the public interface does not.
+//! (c) ties are credited where `oracle::ties` says so, and read-only seams show what the public
+//! interface does not.
 //!
 //! Each substitution names the text and how often it must occur. A count that differs stops the
 //! program: the source is then not the one that was read. docs/DIFFERENCES.md lists (a) and (b).
@@ -29,11 +30,12 @@ fn main() {
 
     our_angles(&mut sources);
     stable_sorts(&mut sources);
+    credited_ties(&mut sources);
     seams(&mut sources);
     write(
         &Path::new(out).join("oracle"),
         &sources,
-        &[("seam.rs", SEAM)],
+        &[("seam.rs", SEAM), ("ties.rs", TIES)],
     );
 }
 
@@ -147,6 +149,59 @@ fn stable_sorts([.., visibility]: &mut [Source; 4]) {
     }
     visibility.absent(".sort_unstable_by(");
 }
+
+/// Document 02's Q-3, mode 1: of equal distances the lowest edge that was tested is answered, and each
+/// polygon that owns one is credited. Mode 0 is the text as it was: an equal nearness stops, an equal
+/// distance is passed over, and the edge answered is the one owner. Five places, and no other.
+fn credited_ties([.., scene, visibility]: &mut [Source; 4]) {
+    visibility.substitute(
+        "            if e.near >= best {\n",
+        "            if e.near > best || (e.near == best && !crate::ties::count()) {\n",
+        1,
+    );
+    visibility.substitute(
+        "                best_edge = e.edge;\n            }\n",
+        NEAREST_OR_TIED,
+        1,
+    );
+    // A sample's cast was made before. It is made once more, so that the tied edges are its own.
+    visibility.substitute(
+        "                owners.push(h.edge);\n                outline.push(sweep",
+        "                assert_eq!(sweep.cast(s.angle), s.hit);
+                owners.extend(crate::ties::owners(scene, h.edge));
+                outline.push(sweep",
+        1,
+    );
+    visibility.substitute(
+        "                owners.push(h.edge);\n                self.refine",
+        "                owners.extend(crate::ties::owners(self.scene, h.edge));
+                self.refine",
+        1,
+    );
+    visibility.absent("owners.push(");
+    scene.substitute(
+        "                        best_edge = (first + prev_index) as u32;\n                    }\n",
+        NEAREST_OR_LOWER,
+        1,
+    );
+}
+
+const NEAREST_OR_TIED: &str = "                best_edge = e.edge;
+                crate::ties::only(e.edge);
+            } else if let Some(t) = ray_segment(o, dir, e.a, e.b)
+                && crate::ties::count() && t == best && best_edge != u32::MAX
+            {
+                best_edge = best_edge.min(e.edge);
+                crate::ties::also(e.edge);
+            }
+";
+const NEAREST_OR_LOWER: &str = "                        best_edge = (first + prev_index) as u32;
+                    } else if let Some(t) = ray_segment(origin, dir, verts[prev_index], v)
+                        && crate::ties::count() && t == best_t && best_edge != u32::MAX
+                    {
+                        best_edge = best_edge.min((first + prev_index) as u32);
+                    }
+";
 
 /// Read-only additions. The lines put into the text count and change no answer.
 fn seams([_, grid, scene, visibility]: &mut [Source; 4]) {
@@ -276,7 +331,9 @@ pub const REFS: usize = 6;
 pub const OWNERS: usize = 7;
 /// Corners seen at one event.
 pub const SEEN: usize = 8;
-pub const COUNTERS: usize = 9;
+/// Owners credited beside that of the edge answered.
+pub const SHARED: usize = 9;
+pub const COUNTERS: usize = 10;
 
 /// More cells than any walk over a grid of 1,048,576 cells enters.
 pub const ENDLESS: usize = 4_000_000;
@@ -323,6 +380,56 @@ pub fn note(i: usize, k: usize) {
 pub fn cell() {
     add(CELLS, 1);
     assert!(counts()[CELLS] < ENDLESS, \"a walk without end\");
+}
+";
+
+const TIES: &str = "//! Document 02's Q-3: the mode in force, and the tied edges of the last cast of an outline.
+use crate::scene::Scene;
+use std::cell::{Cell, RefCell};
+
+thread_local! {
+    static COUNT: Cell<bool> = const { Cell::new(false) };
+    static TIED: RefCell<Vec<u32>> = const { RefCell::new(Vec::new()) };
+}
+
+/// What `f` answers in this mode. All that is called otherwise is in mode 0.
+pub fn in_mode<R>(mode: u32, f: impl FnOnce() -> R) -> R {
+    COUNT.set(mode == 1);
+    let answer = f();
+    COUNT.set(false);
+    answer
+}
+
+/// Do ties count, as in mode 1?
+pub fn count() -> bool {
+    COUNT.get()
+}
+
+/// A cast found an edge nearer than all before.
+pub fn only(edge: u32) {
+    if count() {
+        TIED.replace(vec![edge]);
+    }
+}
+
+/// A cast found an edge as near as the nearest.
+pub fn also(edge: u32) {
+    TIED.with_borrow_mut(|tied| tied.push(edge));
+}
+
+/// The entries for the last cast, which answered `edge`: that edge, and where ties count one edge of
+/// each polygon that owns a tied one.
+pub fn owners(scene: &Scene, edge: u32) -> Vec<u32> {
+    if !count() {
+        return vec![edge];
+    }
+    let mut tied = TIED.take();
+    tied.sort_unstable();
+    assert_eq!(tied.first(), Some(&edge));
+    // Edges are numbered polygon after polygon, so those of one polygon stand together.
+    tied.dedup_by_key(|e| scene.edge_owner(*e));
+    crate::seam::add(crate::seam::SHARED, tied.len() - 1);
+    tied
 }
 ";
 

@@ -6,8 +6,10 @@ mod bench;
 mod damage;
 pub mod given;
 pub mod lines;
+mod ties;
 
 pub use bench::bench;
+pub use damage::unsound;
 
 use crate::grid::questions;
 use crate::grid::sites::Site as Gridded;
@@ -35,7 +37,8 @@ pub fn compare() -> bool {
     held.faults();
     held.random();
     let built = held.print();
-    damage::compare() && built
+    let damaged = damage::compare();
+    ties::compare() && damaged && built
 }
 
 // ---- what is compared and shown
@@ -649,7 +652,7 @@ impl Held {
         let (o, d) = (ray.origin, ray.direction);
         let inside = in_domain(&[o.0, o.1, d.0, d.1]) && !ray.length.is_nan();
         self.seen.outside += u64::from(!inside);
-        let (status, t, found) = site.cast_ray(o, d, ray.length);
+        let (status, t, found) = site.cast_ray(o, d, ray.length, 0);
         seam::reset();
         let rust = if inside {
             scene.cast_ray(

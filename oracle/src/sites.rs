@@ -1,5 +1,7 @@
 //! Sites as a caller gives them, in named groups: what every comparison over sites is made from.
 
+pub mod ties;
+
 use crate::util::bits::{show, step};
 use crate::util::rng::SplitMix64;
 use crate::util::table::{Table, count};

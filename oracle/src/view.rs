@@ -2,11 +2,12 @@
 //! outlines, visible ids, every count, blocked, and the stamps, bit for bit (zero's sign apart), in
 //! rooms that are just enough, longer, and one entry short of each need. The Rust's own needs are
 //! counted by the seams of crate `oracle`. The area of each outline is held against the Rust unaltered.
-//! A cone's own outline is in `cones`.
+//! A cone's own outline is in `cones`, and the mode that credits ties in `ties`.
 
 mod bench;
 mod cones;
 pub mod lines;
+mod ties;
 
 pub use bench::bench;
 
@@ -17,6 +18,7 @@ use crate::util::bits::{same, show, step};
 use crate::util::rng::SplitMix64;
 use crate::util::table::{Table, count};
 use crate::util::tally::{self, Tally, Value};
+use oracle::ties::in_mode;
 use oracle::{Scene, Stamps, Vec2, ViewCone, VisibilityOptions, compute_visibility, seam};
 use std::f64::consts::{FRAC_PI_2, FRAC_PI_4, PI, TAU};
 
@@ -47,16 +49,17 @@ pub fn compare() -> bool {
         ]);
     }
     table.print();
-    let mut held = Held::new();
+    let mut held = Held::new(0);
     for (i, (_, sites, make)) in groups.iter().enumerate() {
         let r = &mut SplitMix64::new(7_000 + i as u64);
         for _ in 0..*sites {
             let plan = make(r);
-            held.site(r, &plan);
+            held.site(r, &plan, cone, |_| ());
         }
     }
     let sites = held.print();
-    cones::compare() && sites
+    let cones = cones::compare();
+    ties::compare() && cones && sites
 }
 
 type Make = fn(&mut SplitMix64) -> Plan;
@@ -215,18 +218,21 @@ pub struct Seen {
     pub visible: Vec<u32>,
     /// The entries of each work list, at their most.
     pub needs: Entries,
+    /// Entries of owners for tied edges, beside those of the edges answered.
+    shared: u64,
     stamps: Stamps,
 }
 
-pub fn rust(scene: &Scene, c: Cone, tolerance: f64, marks: &[u32], epoch: u32) -> Seen {
-    let at = Vec2::new(c.post.0 + 0.0, c.post.1 + 0.0);
-    let cone = ViewCone::sector(at, c.range + 0.0, c.direction + 0.0, c.fov + 0.0);
+pub fn rust(scene: &Scene, c: Cone, tolerance: f64, mode: u32, marks: &[u32], epoch: u32) -> Seen {
+    let c = c.loaded();
+    let at = Vec2::new(c.post.0, c.post.1);
+    let cone = ViewCone::sector(at, c.range, c.direction, c.fov);
     let opts = VisibilityOptions {
         arc_tolerance: tolerance + 0.0,
         ..VisibilityOptions::default()
     };
     seam::reset();
-    let v = compute_visibility(scene, &cone, &opts);
+    let v = in_mode(mode, || compute_visibility(scene, &cone, &opts));
     let n = seam::counts();
     let s = v.stats;
     // The box query, by the public call, on stamps that a caller lends.
@@ -267,6 +273,7 @@ pub fn rust(scene: &Scene, c: Cone, tolerance: f64, marks: &[u32], epoch: u32) -
             n[seam::SEEN],
         ]
         .map(|n| n as u32),
+        shared: n[seam::SHARED] as u64,
         stamps,
     }
 }
@@ -283,8 +290,9 @@ fn rust_area(outline: &[f64]) -> f64 {
 
 // ---- both sides
 
+/// A question: the site, the cone, the tolerance, the mode and the entries.
 #[derive(Clone, Copy)]
-struct At<'a>(&'a Plan, Cone, f64, Entries);
+struct At<'a>(&'a Plan, Cone, f64, u32, Entries);
 
 impl Value for At<'_> {
     fn same(self, _: Self) -> bool {
@@ -293,7 +301,7 @@ impl Value for At<'_> {
     fn show(self) -> String {
         let c = self.1;
         format!(
-            "post ({}, {}), range {}, direction {}, view {}, tolerance {}, entries {:?}; {}",
+            "post ({}, {}), range {}, direction {}, view {}, tolerance {}, mode {}, entries {:?}; {}",
             show(c.post.0),
             show(c.post.1),
             show(c.range),
@@ -301,6 +309,7 @@ impl Value for At<'_> {
             show(c.fov),
             show(self.2),
             self.3,
+            self.4,
             self.0.show()
         )
     }
@@ -334,6 +343,17 @@ impl Value for Told<'_> {
     }
 }
 
+/// The status and the numbers of an answer, and all that was lent.
+fn told((status, answer): (u32, [u64; 9]), w: &Work) -> Told<'_> {
+    Told {
+        status,
+        answer,
+        epoch: w.epoch,
+        words: [&w.marks, &w.words, &w.visible],
+        floats: [&w.floats, &w.outline],
+    }
+}
+
 const FLOAT: f64 = 0.123_456_789;
 
 fn lent(marks: &[u32], epoch: u32, room: (usize, usize), outline: usize, visible: usize) -> Work {
@@ -348,7 +368,9 @@ fn lent(marks: &[u32], epoch: u32, room: (usize, usize), outline: usize, visible
 }
 
 struct Held {
+    mode: u32,
     exact: Tally,
+    inner: Tally,
     longer: Tally,
     short: Tally,
     room: Tally,
@@ -372,11 +394,30 @@ struct Reach {
     most: Entries,
 }
 
+/// One outline of a site: what was asked, and the Rust's answer.
+struct Asked<'a> {
+    scene: &'a Scene,
+    plan: &'a Plan,
+    site: &'a Lent,
+    cone: Cone,
+    tolerance: f64,
+    marks: &'a [u32],
+    epoch: u32,
+    rust: &'a Seen,
+    first: bool,
+}
+
 impl Held {
-    fn new() -> Self {
-        let rust = "compute_visibility";
+    fn new(mode: u32) -> Self {
+        let rust = if mode == 0 {
+            "compute_visibility"
+        } else {
+            "compute_visibility, ties credited"
+        };
         Self {
+            mode,
             exact: Tally::new(["compute_visibility, room just enough", rust]),
+            inner: Tally::new(["the same without the tests", rust]),
             longer: Tally::new(["longer room", "zeros after each list"]),
             short: Tally::new(["a list one entry short", "8, all zero, stamps the same"]),
             room: Tally::new(["room one number short", "8, all zero, stamps the same"]),
@@ -389,7 +430,14 @@ impl Held {
         }
     }
 
-    fn site(&mut self, r: &mut SplitMix64, plan: &Plan) {
+    /// All about one site. `note` is told of each outline.
+    fn site(
+        &mut self,
+        r: &mut SplitMix64,
+        plan: &Plan,
+        cone: fn(&mut SplitMix64, &Scene) -> Cone,
+        mut note: impl FnMut(Asked),
+    ) {
         let scene = plan.scene();
         let given = Given::new(plan);
         let whole = given::of_scene(&scene);
@@ -415,9 +463,20 @@ impl Held {
             if !c.post.0.is_finite() || c.post.0.abs() > 1e6 || c.post.1.abs() > 1e6 {
                 continue;
             }
-            let rust = rust(&scene, c, tolerance, &marks, epoch);
+            let rust = rust(&scene, c, tolerance, self.mode, &marks, epoch);
             self.seen.add(&rust);
             self.one(r, plan, &site, c, tolerance, &marks, epoch, &rust);
+            note(Asked {
+                scene: &scene,
+                plan,
+                site: &site,
+                cone: c,
+                tolerance,
+                marks: &marks,
+                epoch,
+                rust: &rust,
+                first: view == 0,
+            });
             if view == 0 {
                 self.outside(r, plan, &site, c, tolerance, &marks, epoch, polygons);
             }
@@ -440,10 +499,23 @@ impl Held {
         rust: &Seen,
     ) {
         let (points, ids) = (rust.outline.len(), rust.visible.len());
-        let ask = |k: Entries, room: (usize, usize), outline: usize, visible: usize| {
-            let mut w = lent(marks, epoch, room, outline, visible);
-            let (status, answer) = site.outline(c, tolerance, k, &mut w);
-            (status, answer, w)
+        let mode = self.mode;
+        let left = |room: (usize, usize), outline: usize, visible: usize, fits: bool| {
+            let (mut out, mut seen) = (vec![], vec![]);
+            if fits {
+                out.clone_from(&rust.outline);
+                seen.clone_from(&rust.visible);
+            }
+            out.resize(outline, 0.0);
+            seen.resize(visible, 0);
+            Work {
+                marks: rust.stamps.oracle_marks().to_vec(),
+                epoch: rust.stamps.oracle_epoch(),
+                floats: vec![0.0; room.0],
+                words: vec![0; room.1],
+                outline: out,
+                visible: seen,
+            }
         };
         let held = |tally: &mut Tally,
                     k: Entries,
@@ -451,40 +523,29 @@ impl Held {
                     outline: usize,
                     visible: usize,
                     fits: bool| {
-            let (status, answer, w) = ask(k, room, outline, visible);
-            let mut out = rust.outline.clone();
-            out.resize(outline.max(points), 0.0);
-            let mut seen = rust.visible.clone();
-            seen.resize(visible.max(ids), 0);
-            if !fits {
-                out = vec![0.0; outline];
-                seen = vec![0; visible];
-            }
+            let mut w = lent(marks, epoch, room, outline, visible);
+            let (status, answer) = site.outline(c, tolerance, mode, k, &mut w);
+            let expected = if fits { (0, rust.answer) } else { (8, [0; 9]) };
             tally.add(
-                At(plan, c, tolerance, k),
-                Told {
-                    status,
-                    answer,
-                    epoch: w.epoch,
-                    words: [&w.marks, &w.words, &w.visible],
-                    floats: [&w.floats, &w.outline],
-                },
-                Told {
-                    status: if fits { 0 } else { 8 },
-                    answer: if fits { rust.answer } else { [0; 9] },
-                    epoch: rust.stamps.oracle_epoch(),
-                    words: [rust.stamps.oracle_marks(), &vec![0; room.1], &seen],
-                    floats: [&vec![0.0; room.0], &out],
-                },
+                At(plan, c, tolerance, mode, k),
+                told((status, answer), &w),
+                told(expected, &left(room, outline, visible, fits)),
             );
         };
         let k = rust.needs;
         self.area.add(
-            At(plan, c, tolerance, k),
+            At(plan, c, tolerance, mode, k),
             area(&rust.outline),
             rust_area(&rust.outline),
         );
         held(&mut self.exact, k, room_for(k), points, ids, true);
+        let mut w = lent(marks, epoch, room_for(k), points, ids);
+        let inner = site.inner_outline(c.loaded(), tolerance + 0.0, mode, k, &mut w);
+        self.inner.add(
+            At(plan, c, tolerance, mode, k),
+            told(inner, &w),
+            told((0, rust.answer), &left(room_for(k), points, ids, true)),
+        );
         let more = k.map(|n| n + r.below(3) as u32);
         let (f, w) = room_for(more);
         let (f, w) = (f + r.below(4) as usize, w + r.below(4) as usize);
@@ -576,24 +637,12 @@ impl Held {
             let k = [1; 9];
             let room = room_for(k);
             let mut w = lent(marks, epoch, room, 4, 2);
-            let (status, answer) = site.outline(c, tolerance, k, &mut w);
+            let answer = site.outline(c, tolerance, self.mode, k, &mut w);
             let blank = lent(marks, epoch, room, 4, 2);
             self.refused.add(
-                At(plan, c, tolerance, k),
-                Told {
-                    status,
-                    answer,
-                    epoch: w.epoch,
-                    words: [&w.marks, &w.words, &w.visible],
-                    floats: [&w.floats, &w.outline],
-                },
-                Told {
-                    status: no,
-                    answer: [0; 9],
-                    epoch,
-                    words: [&blank.marks, &blank.words, &blank.visible],
-                    floats: [&blank.floats, &blank.outline],
-                },
+                At(plan, c, tolerance, self.mode, k),
+                told(answer, &w),
+                told((no, [0; 9]), &blank),
             );
         }
     }
@@ -602,6 +651,7 @@ impl Held {
         self.seen.print();
         tally::print(&[
             self.exact,
+            self.inner,
             self.longer,
             self.short,
             self.room,

@@ -77,18 +77,18 @@ look-kept n Inside g starts items m e room f = f
 look-kept n (Query b) g starts items m e room f = query-kept n g b starts items m e room f
 
 module _ (n : ℕ) (site : Site) (t : Tables) (k : Rooms) (l : Lent) where
-  draw-kept : (c : ViewCone) (tolerance : Float) → Kept n (l .epoch) (l .marks) → Kept n (seenFromOf site t c tolerance k l .left .epoch) (seenFromOf site t c tolerance k l .left .marks)
+  draw-kept : (c : ViewCone) (tolerance : Float) (mode : ℕ) → Kept n (l .epoch) (l .marks) → Kept n (seenFromOf site t c tolerance mode k l .left .epoch) (seenFromOf site t c tolerance mode k l .left .marks)
   unfolding seenFromOf
-  draw-kept c tolerance f = look-kept n (planOf (site .grid) (t .points) (t .boxes) (t .polygons) (t .starts) (t .items) c) (site .grid) (t .starts) (t .items) (l .marks) (l .epoch) _ f
+  draw-kept c tolerance mode f = look-kept n (planOf (site .grid) (t .points) (t .boxes) (t .polygons) (t .starts) (t .items) c) (site .grid) (t .starts) (t .items) (l .marks) (l .epoch) _ f
 
-  outline-by : (c : ViewCone) (tolerance : Float) (q : ℕ) (b : Bool) → Kept n (l .epoch) (l .marks)
-      → Kept n (cond b (seenFromOf site t (loadConeOf c) (loadOf tolerance) k l) (out (Refused q) l) .left .epoch) (cond b (seenFromOf site t (loadConeOf c) (loadOf tolerance) k l) (out (Refused q) l) .left .marks)
-  outline-by c tolerance q true f = draw-kept (loadConeOf c) (loadOf tolerance) f
-  outline-by c tolerance q false f = f
+  outline-by : (c : ViewCone) (tolerance : Float) (mode q : ℕ) (b : Bool) → Kept n (l .epoch) (l .marks)
+      → Kept n (cond b (seenFromOf site t (loadConeOf c) (loadOf tolerance) mode k l) (out (Refused q) l) .left .epoch) (cond b (seenFromOf site t (loadConeOf c) (loadOf tolerance) mode k l) (out (Refused q) l) .left .marks)
+  outline-by c tolerance mode q true f = draw-kept (loadConeOf c) (loadOf tolerance) mode f
+  outline-by c tolerance mode q false f = f
 
-  outline-kept : (c : ViewCone) (tolerance : Float) → Kept n (l .epoch) (l .marks) → Kept n (outcome site t c tolerance k l .left .epoch) (outcome site t c tolerance k l .left .marks)
+  outline-kept : (c : ViewCone) (tolerance : Float) (mode : ℕ) → Kept n (l .epoch) (l .marks) → Kept n (outcome site t c tolerance mode k l .left .epoch) (outcome site t c tolerance mode k l .left .marks)
   unfolding outcome
-  outline-kept c tolerance f = outline-by c tolerance (admitOf site t c (length (l .marks))) (eqb (admitOf site t c (length (l .marks))) 0) f
+  outline-kept c tolerance mode f = outline-by c tolerance mode (admitOf site t c mode (length (l .marks))) (eqb (admitOf site t c mode (length (l .marks))) 0) f
 
 pub call-kept : (n : ℕ) (c : Call) (s : Stamps) → Kept n (s .epoch) (s .marks) → Kept n (after c s .epoch) (after c s .marks)
 unfolding newStampsOf polygonsNearOf asked
@@ -97,10 +97,10 @@ call-kept n (nears site t b ids) s h =
     near-by n (s .marks) (s .epoch) ids (soundOf site t) (boxInDomain b) (ltb (length (s .marks)) (site .polygons))
     (query.outcome (site .grid) (loadBoxOf b) (t .starts) (t .items) (s .marks) (s .epoch) (length ids)) h
     (query-kept n (site .grid) (loadBoxOf b) (t .starts) (t .items) (s .marks) (s .epoch) (length ids) h)
-call-kept n (outlines site t c tolerance k floats words outline visible) s h = outline-kept n site t k (lentWith s floats words outline visible) c tolerance h
+call-kept n (outlines site t c tolerance mode k floats words outline visible) s h = outline-kept n site t k (lentWith s floats words outline visible) c tolerance mode h
 call-kept n clears s h = clear-kept n (s .epoch) (s .marks) h
 call-kept n (asks g starts items b room) s h = query-kept n g b starts items (s .marks) (s .epoch) room h
-call-kept n (draws site t c tolerance k floats words outline visible) s h = draw-kept n site t k (lentWith s floats words outline visible) c tolerance h
+call-kept n (draws site t c tolerance mode k floats words outline visible) s h = draw-kept n site t k (lentWith s floats words outline visible) c tolerance mode h
 
 all-kept : (n : ℕ) (cs : List Call) (s : Stamps) → Kept n (s .epoch) (s .marks) → Kept n (afterAll cs s .epoch) (afterAll cs s .marks)
 all-kept n [] s h = h

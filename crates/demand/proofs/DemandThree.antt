@@ -1,9 +1,10 @@
 -- DEMAND 3, SENTENCE BY SENTENCE. "Take a site built here and unaltered since" (`BuiltHere`), "and stamps begun empty, always lent whole and touched by our
 -- queries alone" (any list of calls over `begun n`). `every-box-query` and `every-inner-query`: a box query that is not refused lists each polygon whose cells
--- meet the box's cells, once, and no other, and its reported count is exactly the entries that those cells hold. `single-ray`: a ray enters no cell twice and at
--- most columns plus rows less one. `every-visible-id`: each visible id listed owns an edge facing the post that a cast returned. `every-sample-owner`: the owner of
--- every edge that a sample ray's cast returned is listed. `few-events`, `few-rays`: E is at most 2 F + 2, and S at most 2 E + 2. Beside it `never-six` and
--- `never-six-outline`: no question and no outline of such a site is refused as 6. Assumes nothing.
+-- meet the box's cells, once, and no other, and its reported count is exactly the entries that those cells hold. `single-ray`: in either mode a ray enters no cell
+-- twice and at most columns plus rows less one. `both-ray-modes`: the two modes differ in the edge alone. `every-visible-id`: in mode 0 each visible id listed owns
+-- an edge facing the post that a cast returned. `every-sample-owner`: the owner of every edge that a sample ray's cast returned is listed. `every-tied-id`,
+-- `every-tied-owner`: the same of ties (document 02, Q-3), of edges that a cast tested at exactly the distance that it answered. `few-events`, `few-rays`: E is at
+-- most 2 F + 2, and S at most 2 E + 2. Beside it `never-six` and `never-six-outline`: no question and no outline of such a site is refused as 6. Assumes nothing.
 use mathlib.Core.Path.{_≡_, refl, _∙_, sym, ap, subst}
 use mathlib.Core.Bool.{Bool, true, false, cond}
 use mathlib.Core.List.{List}
@@ -39,6 +40,7 @@ use Rattle.site.specs.declared.Cast.the-variants.{Hit}
 use Rattle.sight.specs.declared.Whose.the-variants.{Nobody}
 use Rattle.sight.specs.Holding.{polygonAtOf}
 use Rattle.cone.specs.Cone.{viewOf, aabbOf}
+use Rattle.room.specs.declared.LocalEdge.{LocalEdge}
 use Rattle.room.specs.declared.Sample.{Sample}
 use Rattle.stages.specs.declared.Shown.{Shown}
 use Rattle.view.specs.Post.{isEmpty}
@@ -58,14 +60,14 @@ use Rattle.scene.specs.Answers.{castRayOf}
 use Rattle.scene.specs.declared.Look.the-variants as look
 use Rattle.scene.proofs.BuiltSites.{near-demand}
 use Rattle.scene.proofs.NeverSix.{NeverSix, not-six, sound-never-six}
-use Rattle.scene.proofs.Seen.{seen-counted, seen-once}
+use Rattle.scene.proofs.Seen.{withoutEdge, seen-counted, seen-once, ray-modes}
 use Rattle.visibility.proofs.Admitting.{admitted-marked}
 use Rattle.demand.proofs.Calls.{calls-kept}
 use Rattle.visibility.specs.Numbers.{statusOf}
 use Rattle.demand.proofs.RefusedWhen.{outline-exactly}
 use Rattle.demand.proofs.Outlines.{inner-is, outline-holds}
 use Rattle.demand.specs.Calls.{Stamps, begun, lentWith, Call, afterAll}
-use Rattle.demand.specs.Sweeps.{innerOf, Sweep, sweepIn, samplesIn, refinedIn, CountsOf, OwnsFacing}
+use Rattle.demand.specs.Sweeps.{innerOf, Sweep, sweepIn, samplesIn, refinedIn, tiedIn, CastReturned, CastTested, CountsOf, OwnsFacing}
 use Rattle.demand.specs.Demands.{BuiltHere, BoxLists, RayEnters, by-new, by-random}
 
 -- either way it is building that made it
@@ -131,11 +133,11 @@ module _ (s : Site) (t : Tables) (built : BuiltHere s t) where
         (near-demand (w .width) (w .height) (w .given) (w .lens) (w .lent) t s (w .does) b (now .marks) (now .epoch) room (a .0) (a .1) (calls-kept n calls .fresh)) m count e
 
     -- the same of the box query that an outline call makes itself, where it is not refused before, its view is not empty and its post lies in no polygon
-    module _ (c : ViewCone) (k : Rooms) (floats : List Float) (words : List ℕ) (outline : List Float) (visible : List ℕ) where
+    module _ (c : ViewCone) (mode : ℕ) (k : Rooms) (floats : List Float) (words : List ℕ) (outline : List Float) (visible : List ℕ) where
       abbrev inner : query.Outcome
       inner = innerOf s t c k (lentWith now floats words outline visible)
 
-      pub every-inner-query : admitOf s t c (length (now .marks)) ≡ 0 → isEmpty (viewOf (loadConeOf c)) ≡ false
+      pub every-inner-query : admitOf s t c mode (length (now .marks)) ≡ 0 → isEmpty (viewOf (loadConeOf c)) ≡ false
           → polygonAtOf (s .grid) (t .points) (t .boxes) (t .polygons) (t .starts) (t .items) (loadConeOf c .origin) ≡ Nobody
           → (m count : ℕ) → inner .answer ≡ listing.Listed m count → BoxLists s t (aabbOf (loadConeOf c)) (take m (inner .ids)) count
       every-inner-query z v p m count e =
@@ -143,49 +145,63 @@ module _ (s : Site) (t : Tables) (built : BuiltHere s t) where
           let room = min (k .ids) (length words) in
           lists-by s t (aabbOf (loadConeOf c)) room inner
           (rw (inner-is s t c k (lentWith now floats words outline visible) v p)
-          (built-query (w .width) (w .height) (w .given) (w .lens) (w .lent) t s (w .does) (aabbOf (loadConeOf c)) (now .marks) (now .epoch) room (admitted-marked s t c (length (now .marks)) z) (calls-kept n calls .fresh))) m count e
+          (built-query (w .width) (w .height) (w .given) (w .lens) (w .lent) t s (w .does) (aabbOf (loadConeOf c)) (now .marks) (now .epoch) room (admitted-marked s t c mode (length (now .marks)) z) (calls-kept n calls .fresh))) m count e
 
   -- ---- RAYS. "A single ray enters no cell twice and at most columns plus rows less one"
-  pub single-ray : (o v : Vec2) (len : Float) (hit : Cast) (count : ℕ) → castRayOf s t o v len ≡ look.Seen hit count → RayEnters s t o v len count
-  single-ray o v len hit count e =
-      let n = seen-counted s t o v len hit count e in
-      let w = seen-once s t o v len in
+  pub single-ray : (o v : Vec2) (len : Float) (mode : ℕ) (hit : Cast) (count : ℕ) → castRayOf s t o v len mode ≡ look.Seen hit count → RayEnters s t o v len mode count
+  single-ray o v len mode hit count e =
+      let n = seen-counted s t o v len mode hit count e in
+      let w = seen-once s t o v len mode in
       record { counted = n; no-cell-twice = w .distinct; at-most = le-trans (le-of-eq n) (w .few) }
 
+  -- document 02, Q-3: mode 1 answers what mode 0 does but for the edge, the number of cells too
+  pub both-ray-modes : (o v : Vec2) (len : Float) → withoutEdge (castRayOf s t o v len 0) ≡ withoutEdge (castRayOf s t o v len 1)
+  both-ray-modes o v len = ray-modes s t o v len
+
   -- ---- OUTLINES. A call that is not refused, whatever it is lent
-  module _ (c : ViewCone) (tolerance : Float) (k : Rooms) (l : Lent) (x : Shown) (seen : outcome s t c tolerance k l .answer ≡ Seen x) where
+  module _ (c : ViewCone) (tolerance : Float) (mode : ℕ) (k : Rooms) (l : Lent) (x : Shown) (seen : outcome s t c tolerance mode k l .answer ≡ Seen x) where
     -- the visible ids that it lists, and its own sweep
     abbrev pub visibleIds : List ℕ
-    visibleIds = take (x .visible) (outcome s t c tolerance k l .left .visible)
+    visibleIds = take (x .visible) (outcome s t c tolerance mode k l .left .visible)
 
     abbrev pub ownSweep : Sweep
-    ownSweep = sweepIn s t c tolerance k l
+    ownSweep = sweepIn s t c tolerance mode k l
 
-    -- "Every visible id listed owns an edge facing the post that a cast returned, ..
-    pub every-visible-id : (id : ℕ) → In id visibleIds → OwnsFacing s t (loadPointOf (c .origin)) ownSweep id
-    every-visible-id = outline-holds s t c tolerance k l x seen .owns
+    -- in the Rust's mode: "Every visible id listed owns an edge facing the post that a cast returned, ..
+    pub every-visible-id : mode ≡ 0 → (id : ℕ) → In id visibleIds → OwnsFacing s t (loadPointOf (c .origin)) (CastReturned ownSweep) id
+    every-visible-id = outline-holds s t c tolerance mode k l x seen .returned
 
     -- .. and the owner of every edge that a sample ray's cast returned is listed; ..
     pub every-sample-owner : (a : Sample) → In a (samplesIn ownSweep) → (u : Float) (e : ℕ) → a .hit ≡ Hit u e → In (ownerAt (t .owners) e) visibleIds
-    every-sample-owner = outline-holds s t c tolerance k l x seen .listed
+    every-sample-owner = outline-holds s t c tolerance mode k l x seen .listed
+
+    -- with ties credited (document 02, Q-3), and in the Rust's mode too: "in place of demand 3's edge that a cast returned, each visible id owns a front edge that a cast
+    -- tested at exactly the distance it answered, ..
+    pub every-tied-id : (id : ℕ) → In id visibleIds → OwnsFacing s t (loadPointOf (c .origin)) (CastTested ownSweep) id
+    every-tied-id = outline-holds s t c tolerance mode k l x seen .owns
+
+    -- .. and every polygon owning an edge so tested by a sample ray's cast is listed": in mode 1
+    pub every-tied-owner : mode ≡ 1 → (a : Sample) → In a (samplesIn ownSweep) → (u : Float) (e : ℕ) → a .hit ≡ Hit u e
+        → (y : LocalEdge) → In y (tiedIn ownSweep (a .angle) u) → In (ownerAt (t .owners) (y .edge)) visibleIds
+    every-tied-owner = outline-holds s t c tolerance mode k l x seen .tied
 
     -- .. front edges F, merged events E and sample rays cast S keep E at most 2F + 2 ..
     pub few-events : x .events ≤ 2 * x .«front_edges» + 2
-    few-events = outline-holds s t c tolerance k l x seen .events-few
+    few-events = outline-holds s t c tolerance mode k l x seen .events-few
 
     -- .. and S at most 2E + 2"
     pub few-rays : x .«rays_cast» ≤ 2 * x .events + 2
-    few-rays = outline-holds s t c tolerance k l x seen .rays-few
+    few-rays = outline-holds s t c tolerance mode k l x seen .rays-few
 
     -- the counts are those of what the sweep goes by: F its front edges, E its merged events, S its samples; and so of the rays of refining
     pub all-counted : CountsOf ownSweep x
-    all-counted = outline-holds s t c tolerance k l x seen .counts
+    all-counted = outline-holds s t c tolerance mode k l x seen .counts
 
     pub all-samples : x .«rays_cast» ≡ length (samplesIn ownSweep)
-    all-samples = outline-holds s t c tolerance k l x seen .rays
+    all-samples = outline-holds s t c tolerance mode k l x seen .rays
 
     pub all-refined : x .refinements ≡ length (refinedIn ownSweep)
-    all-refined = outline-holds s t c tolerance k l x seen .refined
+    all-refined = outline-holds s t c tolerance mode k l x seen .refined
 
   -- ---- "a built or random site is never refused as 6": no question of it, and no outline
   pub tables-sound : Sound s t
@@ -194,5 +210,5 @@ module _ (s : Site) (t : Tables) (built : BuiltHere s t) where
   pub never-six : NeverSix s t
   never-six = sound-never-six s t tables-sound
 
-  pub never-six-outline : (c : ViewCone) (tolerance : Float) (k : Rooms) (l : Lent) → statusOf (outcome s t c tolerance k l .answer) ≡ 6 → ⊥
-  never-six-outline c tolerance k l = not-six s t tables-sound (outline-exactly s t c tolerance k l)
+  pub never-six-outline : (c : ViewCone) (tolerance : Float) (mode : ℕ) (k : Rooms) (l : Lent) → statusOf (outcome s t c tolerance mode k l .answer) ≡ 6 → ⊥
+  never-six-outline c tolerance mode k l = not-six s t tables-sound (outline-exactly s t c tolerance mode k l)

@@ -22,7 +22,7 @@ use Rattle.visibility.specs.Asked.{admitOf}
 use Rattle.view.specs.Post.{planOf, isEmpty}
 use Rattle.view.specs.Outcome.{Lent, out, lookOf, seenFromOf, listedBy, planned, drawnOf, requestOf, lookIn}
 use Rattle.visibility.specs.Outcome.{outcome}
-use mathlib.Core.Logic.{inr}
+use mathlib.Core.Logic.{inr, inl, ⊎-elim}
 use native.Mathlib.Omega.{arith}
 use borrow.Author.Tests.{eqb-true}
 use lib.Seq.{take-append-seam, getD-take}
@@ -53,17 +53,17 @@ use Rattle.room.specs.Layout.{isShort}
 use Rattle.fan.specs.Sides.{facing}
 use Rattle.fan.specs.Fan.{Fanned, isOver}
 use Rattle.events.specs.Spots.{Spot}
-use Rattle.index.specs.Angular.{Index, indexOf}
+use Rattle.index.specs.Angular.{Index}
 use Rattle.rays.specs.Samples.{castRay, earlier, orderedOf, raysCast}
 use Rattle.stages.specs.declared.Shown.{Shown}
-use Rattle.stages.specs.Drawing.{Request, viewIn, Drawing, eight, plain, fanIn, spotsFor, eventsOver, circleBy, samplesFor, raysFor, raysOver, runOf, sweptOf, spotted, fanned, stagedOf}
+use Rattle.stages.specs.Drawing.{Request, viewIn, Drawing, eight, plain, fanIn, spotsFor, eventsOver, circleBy, samplesFor, raysFor, indexFor, raysOver, runOf, sweptOf, spotted, fanned, stagedOf}
 use Rattle.view.proofs.Named.{ids-named}
 use Rattle.view.proofs.Asking.{plan-query}
 use Rattle.visibility.proofs.Admitting.{admitted-sound, admitted-inside}
 use Rattle.stages.proofs.Counts.{events-most, rays-most}
-use Rattle.stages.proofs.Demand.{from-map, run-casts, returned-front, visible-owns, samples-listed, front-faces}
+use Rattle.stages.proofs.Demand.{run-casts, Tested, tested-listed, sample-front, visible-owns, rust-returned, samples-listed, ties-listed, front-faces}
 use Rattle.demand.proofs.Facing.{faces-below, edge-end}
-use Rattle.demand.specs.Sweeps.{innerOf, Sweep, still, sweeps, spottedSweep, fannedSweep, listedSweep, plannedSweep, seenSweep, sweepIn, samplesIn, refinedIn, CountsOf, OwnsFacing}
+use Rattle.demand.specs.Sweeps.{innerOf, Sweep, still, sweeps, spottedSweep, fannedSweep, listedSweep, plannedSweep, seenSweep, sweepIn, samplesIn, refinedIn, tiedIn, CastReturned, CastTested, CountsOf, OwnsFacing}
 
 module _ (site : Site) (t : Tables) (c : ViewCone) (k : Rooms) (l : Lent) where
   -- where the view is not empty and the post lies in no polygon, it is the grid's query with the cone's box
@@ -73,22 +73,24 @@ module _ (site : Site) (t : Tables) (c : ViewCone) (k : Rooms) (l : Lent) where
   inner-is e p = ap (λ (x : Plan). lookIn x site t k l) (sym (plan-query (site .grid) (t .points) (t .boxes) (t .polygons) (t .starts) (t .items) (loadConeOf c) e (sym p) refl refl))
 
   -- it is the call's own: the stamps that a call leaves, unless it is refused before it, are those that the query leaves
-  left-by : (tolerance : Float) (n : ℕ) → n ≡ 0
-      → (cond (eqb n 0) (seenFromOf site t (loadConeOf c) (loadOf tolerance) k l) (out (Refused n) l) .left .marks ≡ innerOf site t c k l .marks)
-      × (cond (eqb n 0) (seenFromOf site t (loadConeOf c) (loadOf tolerance) k l) (out (Refused n) l) .left .epoch ≡ innerOf site t c k l .epoch)
+  left-by : (tolerance : Float) (mode n : ℕ) → n ≡ 0
+      → (cond (eqb n 0) (seenFromOf site t (loadConeOf c) (loadOf tolerance) mode k l) (out (Refused n) l) .left .marks ≡ innerOf site t c k l .marks)
+      × (cond (eqb n 0) (seenFromOf site t (loadConeOf c) (loadOf tolerance) mode k l) (out (Refused n) l) .left .epoch ≡ innerOf site t c k l .epoch)
   unfolding seenFromOf innerOf
-  left-by tolerance n z = rw z (refl, refl)
+  left-by tolerance mode n z = rw z (refl, refl)
 
-  pub inner-left : (tolerance : Float) → admitOf site t c (length (l .marks)) ≡ 0
-      → (outcome site t c tolerance k l .left .marks ≡ innerOf site t c k l .marks) × (outcome site t c tolerance k l .left .epoch ≡ innerOf site t c k l .epoch)
+  pub inner-left : (tolerance : Float) (mode : ℕ) → admitOf site t c mode (length (l .marks)) ≡ 0
+      → (outcome site t c tolerance mode k l .left .marks ≡ innerOf site t c k l .marks) × (outcome site t c tolerance mode k l .left .epoch ≡ innerOf site t c k l .epoch)
   unfolding outcome
-  inner-left tolerance z = left-by tolerance (admitOf site t c (length (l .marks))) z
+  inner-left tolerance mode z = left-by tolerance mode (admitOf site t c mode (length (l .marks))) z
 
--- the answer s with the list ids, of a call whose post is o and whose sweep is w
-pub record OutlineHolds (site : Site) (t : Tables) (o : Vec2) (w : Sweep) (s : Shown) (ids : List ℕ) : Type 0 where
+-- the answer s with the list ids, of a call in a mode whose post is o and whose sweep is w
+pub record OutlineHolds (site : Site) (t : Tables) (o : Vec2) (mode : ℕ) (w : Sweep) (s : Shown) (ids : List ℕ) : Type 0 where
   pub many : s .visible ≡ length ids
-  pub owns : (id : ℕ) → In id ids → OwnsFacing site t o w id
+  pub owns : (id : ℕ) → In id ids → OwnsFacing site t o (CastTested w) id
+  pub returned : mode ≡ 0 → (id : ℕ) → In id ids → OwnsFacing site t o (CastReturned w) id
   pub listed : (a : Sample) → In a (samplesIn w) → (u : Float) (e : ℕ) → a .hit ≡ Hit u e → In (ownerAt (t .owners) e) ids
+  pub tied : mode ≡ 1 → (a : Sample) → In a (samplesIn w) → (u : Float) (e : ℕ) → a .hit ≡ Hit u e → (y : LocalEdge) → In y (tiedIn w (a .angle) u) → In (ownerAt (t .owners) (y .edge)) ids
   pub events-few : s .events ≤ 2 * s .«front_edges» + 2
   pub rays-few : s .«rays_cast» ≤ 2 * s .events + 2
   -- F and E are the lengths of the sweep's lists; the rays counted are those samples, and the casts of refining those angles
@@ -164,31 +166,31 @@ rays-many v x l = length-map (orderedOf l) (castRay v x) ∙ by (inOrder (map (�
     by true = refl
     by false = length-sort earlier l
 
-module _ (site : Site) (t : Tables) (o : Vec2) where
+module _ (site : Site) (t : Tables) (o : Vec2) (mode : ℕ) where
   -- what an answer with its list says
   abbrev Says : Drawing → Sweep → Type 0
-  Says d w = (s : Shown) → d .answer ≡ Seen s → OutlineHolds site t o w s (d .ids)
+  Says d w = (s : Shown) → d .answer ≡ Seen s → OutlineHolds site t o mode w s (d .ids)
 
-  told : {w : Sweep} {x s : Shown} {ids : List ℕ} → Seen x ≡ Seen s → OutlineHolds site t o w x ids → OutlineHolds site t o w s ids
-  told {w} {x} {s} {ids} e h = let z : x ≡ s = cc in subst (λ (y : Shown). OutlineHolds site t o w y ids) z h
+  told : {w : Sweep} {x s : Shown} {ids : List ℕ} → Seen x ≡ Seen s → OutlineHolds site t o mode w x ids → OutlineHolds site t o mode w s ids
+  told {w} {x} {s} {ids} e h = let z : x ≡ s = cc in subst (λ (y : Shown). OutlineHolds site t o mode w y ids) z h
 
   says-eight : (w : Sweep) → Says eight w
   says-eight w s e = not-seen e
 
   says-plain : (u v : Bool) → Says (plain u v) (still [])
   says-plain u v s e =
-      told e (record { many = refl; owns = λ id i. absurd i; listed = λ a i. absurd i; events-few = omega arith; rays-few = omega arith; counts = (refl, refl); rays = refl; refined = refl })
+      told e (record { many = refl; owns = λ id i. absurd i; returned = λ z id i. absurd i; listed = λ a i. absurd i; tied = λ z a i. absurd i; events-few = omega arith; rays-few = omega arith; counts = (refl, refl); rays = refl; refined = refl })
 
   says-circle : (c : ViewCone) (tolerance : Float) (candidates : ℕ) (es : List LocalEdge) (numbers : ℕ) → Says (circleBy c tolerance candidates (length es) numbers) (still es)
   unfolding circleBy
   says-circle c tolerance candidates es numbers =
       either Says says-eight says-plain (ltb numbers (2 * length (outlineOf c tolerance))) _ (still es)
-      (λ _ s e. told e (record { many = refl; owns = λ id i. absurd i; listed = λ a i. absurd i; events-few = omega arith; rays-few = omega arith; counts = (refl, refl); rays = refl; refined = refl }))
+      (λ _ s e. told e (record { many = refl; owns = λ id i. absurd i; returned = λ z id i. absurd i; listed = λ a i. absurd i; tied = λ z a i. absurd i; events-few = omega arith; rays-few = omega arith; counts = (refl, refl); rays = refl; refined = refl }))
 
 -- ---- in a sound site, from a post in the domain
-module _ (site : Site) (t : Tables) (S : Sound site t) (c : ViewCone) (O : pointInDomain (c .origin) ≡ true) (tolerance : Float) (k : Rooms) (l : Lent) where
+module _ (site : Site) (t : Tables) (S : Sound site t) (c : ViewCone) (O : pointInDomain (c .origin) ≡ true) (tolerance : Float) (mode : ℕ) (k : Rooms) (l : Lent) where
   abbrev q : Request
-  q = requestOf k t c tolerance l
+  q = requestOf k t c tolerance mode l
 
   module _ (ids : List ℕ) (named : AllBelow (site .polygons) ids) where
     abbrev es : List LocalEdge
@@ -213,37 +215,55 @@ module _ (site : Site) (t : Tables) (S : Sound site t) (c : ViewCone) (O : point
               (subst (λ (n : ℕ). le zeroF (facing (c .origin) (pointAt (t .points) (x .edge)) (pointAt (t .points) n)) ≡ false) (sym z) (f .faces)),
         )
 
-    run-owns : runOf q es sp .at .over ≡ false → (id : ℕ) → In id (markedOf (runOf q es sp .marks)) → OwnsFacing site t (c .origin) (sweeps q es sp) id
-    run-owns h id i =
-        let v = visible-owns q es sp h id i in
-        let f = front-edge (v .front) (v .listed) in
+    -- the polygon that owns it is one of the site
+    owner-few : (x : LocalEdge) → In x es → ownerAt (t .owners) (x .edge) < 4096
+    owner-few x i = omega (arith, S .owner-below (x .edge) (front-edge x i .0), S .few-polygons)
+
+    owns-by : (P : ℕ → Type 0) (id e : ℕ) (x : LocalEdge) → ownerAt (t .owners) e ≡ id → In x es → x .edge ≡ e → P e → OwnsFacing site t (c .origin) P id
+    owns-by P id e x o i n p =
+        let f = front-edge x i in
         record {
-          edge = v .edge;
-          below = subst (λ (n : ℕ). n < site .points) (v .number) (f .0);
-          owner = v .owner;
-          faces = subst (λ (n : ℕ). lt (facing (c .origin) (edgeOf (t .points) (t .polygons) (t .owners) n .a) (edgeOf (t .points) (t .polygons) (t .owners) n .b)) zeroF ≡ true) (v .number) (f .1);
-          returned = v .returned;
+          edge = e;
+          below = subst (λ (n : ℕ). n < site .points) n (f .0);
+          owner = o;
+          faces = subst (λ (n : ℕ). lt (facing (c .origin) (edgeOf (t .points) (t .polygons) (t .owners) n .a) (edgeOf (t .points) (t .polygons) (t .owners) n .b)) zeroF ≡ true) n (f .1);
+          cast = p;
         }
 
-    run-listed : runOf q es sp .at .over ≡ false → (a : Sample) → In a (raysFor (viewIn q) es sp) → (u : Float) (e : ℕ) → a .hit ≡ Hit u e → In (ownerAt (t .owners) e) (markedOf (runOf q es sp .marks))
-    run-listed h a i u e x =
-        let (y, j, n) = from-map (λ (x : LocalEdge). x .edge) e es (returned-front q es sp e (inr (a, i, u, x))) in
-        let b : e < site .points = subst (λ (m : ℕ). m < site .points) n (front-edge y j .0) in
-        samples-listed q es sp h a i u e x (omega (arith, S .owner-below e b, S .few-polygons))
+    cast-tested : (x : LocalEdge) (e : ℕ) → Tested q es sp x → x .edge ≡ e → CastTested (sweeps q es sp) e
+    cast-tested x e r n = ⊎-elim (λ s. inl (s .0, s .1, s .2, s .3, s .4, x, s .5, n)) (λ s. inr (s .0, s .1, s .2, s .3, s .4, x, s .5, n)) r
 
-    says-swept : Says site t (c .origin) (sweptFrom q (t .boxes) ids) (sweepFrom q (t .boxes) ids)
+    run-owns : runOf q es sp .at .over ≡ false → (id : ℕ) → In id (markedOf (runOf q es sp .marks)) → OwnsFacing site t (c .origin) (CastTested (sweeps q es sp)) id
+    run-owns h id i = let v = visible-owns q es sp h id i in owns-by (CastTested (sweeps q es sp)) id (v .edge) (v .front) (v .owner) (v .listed) (v .number) (cast-tested (v .front) (v .edge) (v .tested) (v .number))
+
+    run-returned : runOf q es sp .at .over ≡ false → mode ≡ 0 → (id : ℕ) → In id (markedOf (runOf q es sp .marks)) → OwnsFacing site t (c .origin) (CastReturned (sweeps q es sp)) id
+    run-returned h m id i = let v = visible-owns q es sp h id i in owns-by (CastReturned (sweeps q es sp)) id (v .edge) (v .front) (v .owner) (v .listed) (v .number) (rust-returned q es sp m id v)
+
+    run-listed : runOf q es sp .at .over ≡ false → (a : Sample) → In a (raysFor (q .mode) (viewIn q) es sp) → (u : Float) (e : ℕ) → a .hit ≡ Hit u e → In (ownerAt (t .owners) e) (markedOf (runOf q es sp .marks))
+    run-listed h a i u e x =
+        let (y, j, n) = sample-front q es sp a i u e x in
+        samples-listed q es sp h a i u e x (subst (λ (m : ℕ). ownerAt (t .owners) m < 4096) n (owner-few y j))
+
+    run-tied : runOf q es sp .at .over ≡ false → mode ≡ 1 → (a : Sample) → In a (raysFor (q .mode) (viewIn q) es sp) → (u : Float) (e : ℕ) → a .hit ≡ Hit u e
+        → (y : LocalEdge) → In y (tiedIn (sweeps q es sp) (a .angle) u) → In (ownerAt (t .owners) (y .edge)) (markedOf (runOf q es sp .marks))
+    run-tied h m a i u e x y j =
+        ties-listed q es sp h (λ z. let w : _≡_ {A = ℕ} 0 1 = sym z ∙ m in absurd (omega arith)) a i u e x y j (owner-few y (tested-listed q es sp y (inr (a, i, u, e, x, j))))
+
+    says-swept : Says site t (c .origin) mode (sweptFrom q (t .boxes) ids) (sweepFrom q (t .boxes) ids)
     unfolding sweptOf
     says-swept =
-        either (Says site t (c .origin)) (says-eight site t (c .origin)) (says-plain site t (c .origin)) (runOf q es sp .at .over) _ (sweeps q es sp)
-        (λ h. either (Says site t (c .origin)) (says-eight site t (c .origin)) (says-plain site t (c .origin)) (ltb (q .ids) (length (markedOf (runOf q es sp .marks)))) _ (sweeps q es sp)
-        (λ _ s e. told site t (c .origin) e (record {
+        either (Says site t (c .origin) mode) (says-eight site t (c .origin) mode) (says-plain site t (c .origin) mode) (runOf q es sp .at .over) _ (sweeps q es sp)
+        (λ h. either (Says site t (c .origin) mode) (says-eight site t (c .origin) mode) (says-plain site t (c .origin) mode) (ltb (q .ids) (length (markedOf (runOf q es sp .marks)))) _ (sweeps q es sp)
+        (λ _ s e. told site t (c .origin) mode e (record {
           many = refl;
           owns = run-owns h;
+          returned = run-returned h;
           listed = run-listed h;
+          tied = run-tied h;
           events-few = events-most q (t .boxes) ids;
           rays-few = rays-most q (t .boxes) ids;
           counts = (refl, refl);
-          rays = sym (rays-many (viewIn q) (indexOf (viewIn q .fov) es) (samplesFor (viewIn q) sp));
+          rays = sym (rays-many (viewIn q) (indexFor q es) (samplesFor (viewIn q) sp));
           refined = run-casts q es sp h;
         })))
 
@@ -253,16 +273,16 @@ module _ (site : Site) (t : Tables) (S : Sound site t) (c : ViewCone) (O : point
   look-named b n read i z j = ids-named site t S b (l .marks) (l .epoch) (min (k .ids) (length (l .words))) n read i z j
 
   -- the list in front of the slice
-  front-list : (n : ℕ) (w : Sweep) (s : Shown) (d : List ℕ) → OutlineHolds site t (c .origin) w s d → OutlineHolds site t (c .origin) w s (take (s .visible) (padded 0 n d))
-  front-list n w s d h = subst (OutlineHolds site t (c .origin) w s) (sym (ap (λ (m : ℕ). take m (padded 0 n d)) (h .many) ∙ take-append-seam d _)) h
+  front-list : (n : ℕ) (w : Sweep) (s : Shown) (d : List ℕ) → OutlineHolds site t (c .origin) mode w s d → OutlineHolds site t (c .origin) mode w s (take (s .visible) (padded 0 n d))
+  front-list n w s d h = subst (OutlineHolds site t (c .origin) mode w s) (sym (ap (λ (m : ℕ). take m (padded 0 n d)) (h .many) ∙ take-append-seam d _)) h
 
-  seen-holds : (s : Shown) → seenFromOf site t c tolerance k l .answer ≡ Seen s
-      → OutlineHolds site t (c .origin) (seenSweep site t c tolerance k l) s (take (s .visible) (seenFromOf site t c tolerance k l .left .visible))
+  seen-holds : (s : Shown) → seenFromOf site t c tolerance mode k l .answer ≡ Seen s
+      → OutlineHolds site t (c .origin) mode (seenSweep site t c tolerance mode k l) s (take (s .visible) (seenFromOf site t c tolerance mode k l .left .visible))
   unfolding seenFromOf
   seen-holds s e =
       let p = planOf (site .grid) (t .points) (t .boxes) (t .polygons) (t .starts) (t .items) c in
-      front-list (length (l .visible)) (seenSweep site t c tolerance k l) s _
-      (drawn-by (Says site t (c .origin)) (says-eight site t (c .origin)) (says-plain site t (c .origin)) q (λ n m. says-circle site t (c .origin) c tolerance n m (length (l .outline)))
+      front-list (length (l .visible)) (seenSweep site t c tolerance mode k l) s _
+      (drawn-by (Says site t (c .origin) mode) (says-eight site t (c .origin) mode) (says-plain site t (c .origin) mode) q (λ n m. says-circle site t (c .origin) mode c tolerance n m (length (l .outline)))
       (isShort k (length (l .floats)) (length (l .words))) p (t .boxes) (lookIn p site t k l .answer) (lookIn p site t k l .ids) (λ b y n read z. says-swept (take n (lookIn p site t k l .ids)) (below p b y n read z)) s e)
     where
       below : (p : Plan) (b : Aabb) → p ≡ Query b → (n read : ℕ) → lookIn p site t k l .answer ≡ listing.Listed n read → AllBelow (site .polygons) (take n (lookIn p site t k l .ids))
@@ -273,7 +293,7 @@ module _ (site : Site) (t : Tables) (S : Sound site t) (c : ViewCone) (O : point
           (λ i g. let j : i < n = omega (arith, length-take n (lookIn (Query a) site t k l .ids)) in rw getD-take (look-named a n read i z j))
 
 -- ---- of the call
-module _ (site : Site) (t : Tables) (c : ViewCone) (tolerance : Float) (k : Rooms) (l : Lent) where
+module _ (site : Site) (t : Tables) (c : ViewCone) (tolerance : Float) (mode : ℕ) (k : Rooms) (l : Lent) where
   load-inside : pointInDomain (c .origin) ≡ true → pointInDomain (loadPointOf (c .origin)) ≡ true
   unfolding pointInDomain loadPointOf
   load-inside h =
@@ -283,18 +303,18 @@ module _ (site : Site) (t : Tables) (c : ViewCone) (tolerance : Float) (k : Room
   unfolding coneInDomain
   origin-inside h = both _ _ (both _ _ (both _ _ (both _ _ h .0) .0) .0) .0
 
-  holds-by : (s : Shown) (n : ℕ) → n ≡ admitOf site t c (length (l .marks)) → (b : Bool) → eqb n 0 ≡ b
-      → cond b (seenFromOf site t (loadConeOf c) (loadOf tolerance) k l) (out (Refused n) l) .answer ≡ Seen s
-      → OutlineHolds site t (loadPointOf (c .origin)) (seenSweep site t (loadConeOf c) (loadOf tolerance) k l) s
-      (take (s .visible) (cond b (seenFromOf site t (loadConeOf c) (loadOf tolerance) k l) (out (Refused n) l) .left .visible))
+  holds-by : (s : Shown) (n : ℕ) → n ≡ admitOf site t c mode (length (l .marks)) → (b : Bool) → eqb n 0 ≡ b
+      → cond b (seenFromOf site t (loadConeOf c) (loadOf tolerance) mode k l) (out (Refused n) l) .answer ≡ Seen s
+      → OutlineHolds site t (loadPointOf (c .origin)) mode (seenSweep site t (loadConeOf c) (loadOf tolerance) mode k l) s
+      (take (s .visible) (cond b (seenFromOf site t (loadConeOf c) (loadOf tolerance) mode k l) (out (Refused n) l) .left .visible))
   unfolding loadConeOf
   holds-by s n e true z h =
       let m : n ≡ 0 = eqb-true n 0 z in
-      seen-holds site t (sound site t (admitted-sound site t c (length (l .marks)) n e m)) (loadConeOf c) (load-inside (origin-inside (admitted-inside site t c (length (l .marks)) (sym e ∙ m)))) (loadOf tolerance) k l s h
+      seen-holds site t (sound site t (admitted-sound site t c mode (length (l .marks)) n e m)) (loadConeOf c) (load-inside (origin-inside (admitted-inside site t c mode (length (l .marks)) (sym e ∙ m)))) (loadOf tolerance) mode k l s h
   holds-by s n e false z h = not-seen h
 
   -- DEMAND 3 OF THE OUTLINE
-  pub outline-holds : (s : Shown) → outcome site t c tolerance k l .answer ≡ Seen s
-      → OutlineHolds site t (loadPointOf (c .origin)) (sweepIn site t c tolerance k l) s (take (s .visible) (outcome site t c tolerance k l .left .visible))
+  pub outline-holds : (s : Shown) → outcome site t c tolerance mode k l .answer ≡ Seen s
+      → OutlineHolds site t (loadPointOf (c .origin)) mode (sweepIn site t c tolerance mode k l) s (take (s .visible) (outcome site t c tolerance mode k l .left .visible))
   unfolding outcome sweepIn
-  outline-holds s h = holds-by s (admitOf site t c (length (l .marks))) refl (eqb (admitOf site t c (length (l .marks))) 0) refl h
+  outline-holds s h = holds-by s (admitOf site t c mode (length (l .marks))) refl (eqb (admitOf site t c mode (length (l .marks))) 0) refl h

@@ -44,8 +44,8 @@ use Rattle.stages.specs.Drawing.{Request, viewIn, Drawing, eight, plain, fanIn,
 use Rattle.stages.proofs.Demand.{run-exact, run-marks}
 use Rattle.view.specs.declared.Plan.{Plan}
 use Rattle.view.specs.declared.Plan.the-variants.{Empty, Inside, Query}
-use Rattle.cone.specs.Domain.{coneInDomain, loadConeOf}
-use Rattle.visibility.specs.Asked.{admitOf}
+use Rattle.cone.specs.Domain.{loadConeOf}
+use Rattle.visibility.specs.Asked.{askedInDomain, admitOf}
 use Rattle.view.specs.Post.{planOf}
 use Rattle.visibility.specs.Numbers.{statusOf}
 use Rattle.view.specs.Outcome.{Lent, out, lookOf, listedBy, planned, drawnOf, requestOf, seenFromOf}
@@ -125,7 +125,7 @@ module _ (q : Request) (candidates : ℕ) (n : ℕ) (f : Fanned) where
       ∙ sym (rw (never-longer (q .k .starts), never-longer (q .k .refs), never-longer (q .k .samples), never-longer (q .k .owners), never-longer (q .k .seen), never-longer (q .ids))
       (either-of (ltb (q .numbers) (2 * length (outlineOf (q .cone) (q .tolerance)))) false 8 0))
   spotted-status (s ∷ l) =
-      let a = ltb (q .k .starts) (headOf (length (f .edges)) (viewIn q .fov) .buckets + 1) in
+      let a = ltb (q .k .starts) (headOf 0 (length (f .edges)) (viewIn q .fov) .buckets + 1) in
       let b = ltb (q .k .refs) (refsOf (viewIn q .fov) (f .edges)) in
       let c = ltb (q .k .samples) (length (samplesFor (viewIn q) (s ∷ l))) in
       let g = growing q f (s ∷ l) in
@@ -275,13 +275,13 @@ module _ (s : Site) (t : Tables) (q : Request) (l : Lent) (room : ℕ) (e : room
   planned-status Inside = sym (rw (no-list (q .k) (q .numbers) (q .ids)))
   planned-status (Query b) = rw e (range-status q (t .boxes) (s .grid) (rangeOf (s .grid) b) (t .starts) (t .items) (l .marks) (l .epoch))
 
-module _ (s : Site) (t : Tables) (c : ViewCone) (tolerance : Float) (k : Rooms) (l : Lent) where
+module _ (s : Site) (t : Tables) (c : ViewCone) (tolerance : Float) (mode : ℕ) (k : Rooms) (l : Lent) where
   abbrev short : Bool
   short = isShort k (length (l .floats)) (length (l .words))
 
   -- refused as 8, or not
   abbrev tooLong : Bool
-  tooLong = short || someLonger k (length (l .outline)) (length (l .visible)) (lengthsOf s t c tolerance k l)
+  tooLong = short || someLonger k (length (l .outline)) (length (l .visible)) (lengthsOf s t c tolerance mode k l)
 
   -- room that is not short holds the ids that are stated
   whole-ids : short ≡ false → min (k .ids) (length (l .words)) ≡ k .ids
@@ -291,19 +291,19 @@ module _ (s : Site) (t : Tables) (c : ViewCone) (tolerance : Float) (k : Rooms) 
   drawn-by true d m h = refl
   drawn-by false d m h = h refl
 
-  seen-status : statusOf (seenFromOf s t (loadConeOf c) (loadOf tolerance) k l .answer) ≡ eightIf tooLong 0
+  seen-status : statusOf (seenFromOf s t (loadConeOf c) (loadOf tolerance) mode k l .answer) ≡ eightIf tooLong 0
   unfolding seenFromOf drawnOf lengthsOf
   seen-status =
       let p = planOf (s .grid) (t .points) (t .boxes) (t .polygons) (t .starts) (t .items) (loadConeOf c) in
-      drawn-by short _ _ (λ e. planned-status s t (requestOf k t (loadConeOf c) (loadOf tolerance) l) l (min (k .ids) (length (l .words))) (whole-ids e) p)
+      drawn-by short _ _ (λ e. planned-status s t (requestOf k t (loadConeOf c) (loadOf tolerance) mode l) l (min (k .ids) (length (l .words))) (whole-ids e) p)
 
   -- THE NUMBER of an outline's answer
-  pub outline-number : statusOf (outcome s t c tolerance k l .answer) ≡ cond (soundOf s t) (cond (coneInDomain c) (cond (ltb (length (l .marks)) (s .polygons)) 7 (eightIf tooLong 0)) 1) 6
+  pub outline-number : statusOf (outcome s t c tolerance mode k l .answer) ≡ cond (soundOf s t) (cond (askedInDomain c mode) (cond (ltb (length (l .marks)) (s .polygons)) 7 (eightIf tooLong 0)) 1) 6
   unfolding outcome admitOf asked
-  outline-number = by (soundOf s t) (coneInDomain c) (ltb (length (l .marks)) (s .polygons))
+  outline-number = by (soundOf s t) (askedInDomain c mode) (ltb (length (l .marks)) (s .polygons))
     where
       by : (a b d : Bool)
-          → statusOf (cond (eqb (cond a (cond b (cond d 7 0) 1) 6) 0) (seenFromOf s t (loadConeOf c) (loadOf tolerance) k l) (out (Refused (cond a (cond b (cond d 7 0) 1) 6)) l) .answer)
+          → statusOf (cond (eqb (cond a (cond b (cond d 7 0) 1) 6) 0) (seenFromOf s t (loadConeOf c) (loadOf tolerance) mode k l) (out (Refused (cond a (cond b (cond d 7 0) 1) 6)) l) .answer)
           ≡ cond a (cond b (cond d 7 (eightIf tooLong 0)) 1) 6
       by true true true = refl
       by true true false = seen-status
@@ -311,9 +311,9 @@ module _ (s : Site) (t : Tables) (c : ViewCone) (tolerance : Float) (k : Rooms) 
       by false b d = refl
 
   -- ---- what 8 asks
-  enough : tooLong ≡ false → Enough k (length (l .floats)) (length (l .words)) (length (l .outline)) (length (l .visible)) (lengthsOf s t c tolerance k l)
+  enough : tooLong ≡ false → Enough k (length (l .floats)) (length (l .words)) (length (l .outline)) (length (l .visible)) (lengthsOf s t c tolerance mode k l)
   enough e =
-      let n = lengthsOf s t c tolerance k l in
+      let n = lengthsOf s t c tolerance mode k l in
       let a = neither short _ e in
       let b1 = neither (ltb (k .ids) (n .ids)) _ (a .1) in
       let b2 = neither (ltb (k .edges) (n .edges)) _ (b1 .1) in
@@ -340,9 +340,9 @@ module _ (s : Site) (t : Tables) (c : ViewCone) (tolerance : Float) (k : Rooms) 
         visible-fit = ltb-false (length (l .visible)) (n .visible) (b10 .1);
       }
 
-  none-long : Enough k (length (l .floats)) (length (l .words)) (length (l .outline)) (length (l .visible)) (lengthsOf s t c tolerance k l) → tooLong ≡ false
+  none-long : Enough k (length (l .floats)) (length (l .words)) (length (l .outline)) (length (l .visible)) (lengthsOf s t c tolerance mode k l) → tooLong ≡ false
   none-long h =
-      let n = lengthsOf s t c tolerance k l in
+      let n = lengthsOf s t c tolerance mode k l in
       rw (
         le-ltb (length (l .floats)) (floatsFor k) (h .room-fits .floats-fit),
         le-ltb (length (l .words)) (wordsFor k) (h .room-fits .words-fit),
@@ -361,16 +361,16 @@ module _ (s : Site) (t : Tables) (c : ViewCone) (tolerance : Float) (k : Rooms) 
 
   -- THE THEOREM
   pub outline-exactly : Exactly (check 6 (Sound s t)
-      (check 1 (coneInDomain c ≡ true)
+      (check 1 (askedInDomain c mode ≡ true)
       (check 7 (s .polygons ≤ length (l .marks))
-      (check 8 (Enough k (length (l .floats)) (length (l .words)) (length (l .outline)) (length (l .visible)) (lengthsOf s t c tolerance k l)) passed))))
-      (statusOf (outcome s t c tolerance k l .answer))
+      (check 8 (Enough k (length (l .floats)) (length (l .words)) (length (l .outline)) (length (l .visible)) (lengthsOf s t c tolerance mode k l)) passed))))
+      (statusOf (outcome s t c tolerance mode k l .answer))
   outline-exactly =
-      let Held = Enough k (length (l .floats)) (length (l .words)) (length (l .outline)) (length (l .visible)) (lengthsOf s t c tolerance k l) in
+      let Held = Enough k (length (l .floats)) (length (l .words)) (length (l .outline)) (length (l .visible)) (lengthsOf s t c tolerance mode k l) in
       let eighth = check 8 Held passed in
       let seventh = check 7 (s .polygons ≤ length (l .marks)) eighth in
       rw outline-number
-      (by-true 6 (Sound s t) (check 1 (coneInDomain c ≡ true) seventh) _ (soundOf s t) refl (sound s t) (tested s t)
-      (λ _. by-true 1 (coneInDomain c ≡ true) seventh _ (coneInDomain c) refl (λ i. i) (λ i. i)
+      (by-true 6 (Sound s t) (check 1 (askedInDomain c mode ≡ true) seventh) _ (soundOf s t) refl (sound s t) (tested s t)
+      (λ _. by-true 1 (askedInDomain c mode ≡ true) seventh _ (askedInDomain c mode) refl (λ i. i) (λ i. i)
       (λ _. by-false 7 (s .polygons ≤ length (l .marks)) eighth _ (ltb (length (l .marks)) (s .polygons)) refl (ltb-false _ _) (le-ltb _ _)
       (λ _. by-false 8 Held passed 0 tooLong refl enough none-long (λ _. all-passed)))))

@@ -34,21 +34,21 @@ lentWith s floats words outline visible = lent (s .marks) (s .epoch) floats word
 pub data Call : Type 0 where
   renews : (site : Site) (t : Tables) → Call
   nears : (site : Site) (t : Tables) (b : Aabb) (ids : List ℕ) → Call
-  outlines : (site : Site) (t : Tables) (c : ViewCone) (tolerance : Float) (k : Rooms) (floats : List Float) (words : List ℕ) (outline : List Float) (visible : List ℕ) → Call
+  outlines : (site : Site) (t : Tables) (c : ViewCone) (tolerance : Float) (mode : ℕ) (k : Rooms) (floats : List Float) (words : List ℕ) (outline : List Float) (visible : List ℕ) → Call
   clears : Call
   asks : (g : Grid) (starts items : List ℕ) (b : Aabb) (room : ℕ) → Call
-  draws : (site : Site) (t : Tables) (c : ViewCone) (tolerance : Float) (k : Rooms) (floats : List Float) (words : List ℕ) (outline : List Float) (visible : List ℕ) → Call
+  draws : (site : Site) (t : Tables) (c : ViewCone) (tolerance : Float) (mode : ℕ) (k : Rooms) (floats : List Float) (words : List ℕ) (outline : List Float) (visible : List ℕ) → Call
 
 -- the stamps after it
 abbrev pub after : Call → Stamps → Stamps
 after (renews site t) s = let o = newStampsOf site t (s .marks) (s .epoch) in stamps (o .marks) (o .epoch)
 after (nears site t b ids) s = let o = polygonsNearOf site t b (s .marks) (s .epoch) ids in stamps (o .marks) (o .epoch)
-after (outlines site t c tolerance k floats words outline visible) s =
-    let o = outcome site t c tolerance k (lentWith s floats words outline visible) in stamps (o .left .marks) (o .left .epoch)
+after (outlines site t c tolerance mode k floats words outline visible) s =
+    let o = outcome site t c tolerance mode k (lentWith s floats words outline visible) in stamps (o .left .marks) (o .left .epoch)
 after clears s = stamps (replicate (length (s .marks)) 0) 0
 after (asks g starts items b room) s = let o = query.outcome g b starts items (s .marks) (s .epoch) room in stamps (o .marks) (o .epoch)
-after (draws site t c tolerance k floats words outline visible) s =
-    let o = seenFromOf site t c tolerance k (lentWith s floats words outline visible) in stamps (o .left .marks) (o .left .epoch)
+after (draws site t c tolerance mode k floats words outline visible) s =
+    let o = seenFromOf site t c tolerance mode k (lentWith s floats words outline visible) in stamps (o .left .marks) (o .left .epoch)
 
 -- and after any of them, one after another
 abbrev pub afterAll : List Call → Stamps → Stamps

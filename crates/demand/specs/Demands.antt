@@ -33,8 +33,8 @@ pub record BoxLists (s : Site) (t : Tables) (b : Aabb) (ids : List ℕ) (count :
   -- .. and its reported count is exactly the entries those cells hold"
   pub counted : count ≡ heldIn (spanOf (s .grid) (t .boxes)) (s .polygons) (s .grid .cols) (rangeOf (s .grid) b)
 
--- ---- what a ray enters: so many cells, those of its walk
-pub record RayEnters (s : Site) (t : Tables) (o v : Vec2) (len : Float) (count : ℕ) : Type 0 where
-  pub counted : count ≡ length (seenCells s t o v len)
-  pub no-cell-twice : NoDup (seenCells s t o v len)
+-- ---- what a ray enters, in a mode: so many cells, those of its walk
+pub record RayEnters (s : Site) (t : Tables) (o v : Vec2) (len : Float) (mode count : ℕ) : Type 0 where
+  pub counted : count ≡ length (seenCells s t o v len mode)
+  pub no-cell-twice : NoDup (seenCells s t o v len mode)
   pub at-most : count ≤ s .grid .cols + s .grid .rows - 1

@@ -20,7 +20,8 @@ use Rattle.events.specs.Spots.{Spot, asideCount}
 use Rattle.index.specs.Spans.{headOf}
 use Rattle.index.specs.Angular.{refsOf}
 use Rattle.sweep.specs.Recorder.{Free, asRust}
-use Rattle.stages.specs.Drawing.{Request, viewIn, fanIn, unmergedOf, spotsFor, samplesFor, raysFor, courseOf, noMarks}
+use Rattle.credit.specs.Credit.{noMarks}
+use Rattle.stages.specs.Drawing.{Request, viewIn, fanIn, unmergedOf, spotsFor, samplesFor, raysFor, courseOf}
 use Rattle.view.specs.declared.Plan.{Plan}
 use Rattle.view.specs.declared.Plan.the-variants.{Empty, Inside, Query}
 use Rattle.cone.specs.Domain.{loadConeOf}
@@ -59,7 +60,7 @@ noRays ids edges events corners points = record {
 
 -- the sweep in lists that grow
 abbrev pub growing : Request → Fanned → List Spot → Free
-growing q f spots = asRust (courseOf q (f .edges) spots) (raysFor (viewIn q) (f .edges) spots) noMarks
+growing q f spots = asRust (courseOf q (f .edges) spots) (raysFor (q .mode) (viewIn q) (f .edges) spots) noMarks
 
 -- of n ids, from the scan and the merged events on: without an event it is the cone's own outline
 unfoldable pub sweptLengths : Request → ℕ → Fanned → List Spot → Lengths
@@ -70,7 +71,7 @@ sweptLengths q n f (s ∷ l) = record {
   events = length (unmergedOf (viewIn q) f);
   corners = asideCount (s ∷ l);
   samples = length (samplesFor (viewIn q) (s ∷ l));
-  starts = headOf (length (f .edges)) (viewIn q .fov) .buckets + 1;
+  starts = headOf 0 (length (f .edges)) (viewIn q .fov) .buckets + 1;
   refs = refsOf (viewIn q .fov) (f .edges);
   owners = growing q f (s ∷ l) .run .at .owners;
   seen = growing q f (s ∷ l) .most;
@@ -91,9 +92,9 @@ plannedLengths (Query b) s t q l =
     fannedLengths q (length found) (fanIn q (t .boxes) found)
 
 -- THE LENGTHS of an outline call's lists
-unfoldable pub lengthsOf : Site → Tables → ViewCone → Float → Rooms → Lent → Lengths
-lengthsOf s t c tolerance k l =
-    plannedLengths (planOf (s .grid) (t .points) (t .boxes) (t .polygons) (t .starts) (t .items) (loadConeOf c)) s t (requestOf k t (loadConeOf c) (loadOf tolerance) l) l
+unfoldable pub lengthsOf : Site → Tables → ViewCone → Float → ℕ → Rooms → Lent → Lengths
+lengthsOf s t c tolerance mode k l =
+    plannedLengths (planOf (s .grid) (t .points) (t .boxes) (t .polygons) (t .starts) (t .items) (loadConeOf c)) s t (requestOf k t (loadConeOf c) (loadOf tolerance) mode l) l
 
 -- WHAT 8 ASKS: the lent slices hold the room that the stated entries need, and each list keeps within its entries: those stated for the work lists, and those of the
 -- two output slices, where a point takes two numbers

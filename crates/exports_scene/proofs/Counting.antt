@@ -54,4 +54,4 @@ module _ (g : Grid) (points boxes : List Float) (polygons starts items : List â„
   hit-le e =
       let o = vec (getD asked (5 * i) nan) (getD asked (5 * i + 1) nan) in
       let d = vec (getD asked (5 * i + 2) nan) (getD asked (5 * i + 3) nan) in
-      omega (arith, e, hit-le-one (castRayOf g points boxes polygons starts items o d (getD asked (5 * i + 4) nan) .hit))
+      omega (arith, e, hit-le-one (castRayOf g points boxes polygons starts items o d (getD asked (5 * i + 4) nan) 0 .hit))

@@ -33,12 +33,12 @@ heldOf g points boxes polygons starts items asked = sumTo (heldAt g points boxes
 abbrev pub raysIn : List Float → ℕ
 raysIn asked = length asked / 5
 
--- 1 where the ray i hits, else 0
+-- 1 where the ray i hits, else 0. By the Rust's rule, mode 0; in every other mode the same rays hit (`alike`, crate `sight`)
 unfoldable pub hitAt : Grid → List Float → List Float → List ℕ → List ℕ → List ℕ → List Float → ℕ → ℕ
 hitAt g points boxes polygons starts items asked i =
     let o = vec (getD asked (5 * i) nan) (getD asked (5 * i + 1) nan) in
     let d = vec (getD asked (5 * i + 2) nan) (getD asked (5 * i + 3) nan) in
-    castHit (castRayOf g points boxes polygons starts items o d (getD asked (5 * i + 4) nan) .hit)
+    castHit (castRayOf g points boxes polygons starts items o d (getD asked (5 * i + 4) nan) 0 .hit)
 
 -- how many rays hit
 unfoldable pub hitsOf : Grid → List Float → List Float → List ℕ → List ℕ → List ℕ → List Float → ℕ

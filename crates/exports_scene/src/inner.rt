@@ -42,7 +42,7 @@ pub extern "C" fn bf_inner_polygon_at(
     0
 }
 
-// A ray: its hit's distance in `t`; in `found` 1 and the edge, or zeros, and the cells entered.
+// A ray in a mode: its hit's distance in `t`; in `found` 1 and the edge, or zeros, and the cells entered.
 #[no_mangle]
 pub extern "C" fn bf_inner_cast_ray(
     head: &[f64; 6],
@@ -58,12 +58,13 @@ pub extern "C" fn bf_inner_cast_ray(
     dx: f64,
     dy: f64,
     length: f64,
+    mode: u32,
     t: &mut f64,
     found: &mut [u64; 3],
 ) -> u32
     ensures { λ r. ⌜ r ≡ 0 ⌝ }
-    ensures { λ r. ⌜ now (t .exit) ≡ lookDistance (lookFrom (castRayOf (siteOf (now (head .entry)) (now (counts .entry)) .grid) (now (points .entry)) (now (boxes .entry)) (now (polygons .entry)) (now (starts .entry)) (now (items .entry)) (vec ox oy) (vec dx dy) length)) ⌝ }
-    ensures { λ r. ⌜ now (found .exit) ≡ lookThree (lookFrom (castRayOf (siteOf (now (head .entry)) (now (counts .entry)) .grid) (now (points .entry)) (now (boxes .entry)) (now (polygons .entry)) (now (starts .entry)) (now (items .entry)) (vec ox oy) (vec dx dy) length)) ⌝ }
+    ensures { λ r. ⌜ now (t .exit) ≡ lookDistance (lookFrom (castRayOf (siteOf (now (head .entry)) (now (counts .entry)) .grid) (now (points .entry)) (now (boxes .entry)) (now (polygons .entry)) (now (starts .entry)) (now (items .entry)) (vec ox oy) (vec dx dy) length mode)) ⌝ }
+    ensures { λ r. ⌜ now (found .exit) ≡ lookThree (lookFrom (castRayOf (siteOf (now (head .entry)) (now (counts .entry)) .grid) (now (points .entry)) (now (boxes .entry)) (now (polygons .entry)) (now (starts .entry)) (now (items .entry)) (vec ox oy) (vec dx dy) length mode)) ⌝ }
 {
     let s = answers::site_of(head, counts);
     let g = s.grid;
@@ -77,6 +78,7 @@ pub extern "C" fn bf_inner_cast_ray(
         Vec2 { x: ox, y: oy },
         Vec2 { x: dx, y: dy },
         length,
+        mode,
     );
     let hit = seen.hit;
     let cells = seen.cells;
@@ -132,7 +134,7 @@ fn held(
     n
 }
 
-// 1 where the ray i hits, else 0.
+// 1 where the ray i hits, else 0: by the Rust's rule, as the same rays hit in every mode.
 fn hit_at(
     g: Grid,
     points: &[f64],
@@ -162,6 +164,7 @@ fn hit_at(
             y: asked[5 * i + 3],
         },
         asked[5 * i + 4],
+        0,
     );
     let hit = seen.hit;
     answers::hit_of(hit) as u64

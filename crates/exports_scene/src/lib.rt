@@ -186,7 +186,8 @@ pub extern "C" fn bf_scene_polygon_at(
     answers::found_status(a)
 }
 
-// A ray: its hit's distance in `t`; in `found` 1 and the edge, or zeros, and the cells entered.
+// A ray, in mode 0 by the Rust's rule, in mode 1 to the lowest of the edges at one distance: its hit's distance in `t`; in `found` 1 and the edge, or zeros, and the cells
+// entered.
 #[no_mangle]
 pub extern "C" fn bf_scene_cast_ray(
     head: &[f64; 6],
@@ -202,12 +203,13 @@ pub extern "C" fn bf_scene_cast_ray(
     dx: f64,
     dy: f64,
     length: f64,
+    mode: u32,
     t: &mut f64,
     found: &mut [u64; 3],
 ) -> u32
-    ensures { λ r. ⌜ r ≡ lookStatus (castRayOf (siteOf (now (head .entry)) (now (counts .entry))) (tables (now (points .entry)) (now (boxes .entry)) (now (polygons .entry)) (now (owners .entry)) (now (starts .entry)) (now (items .entry))) (vec ox oy) (vec dx dy) length) ⌝ }
-    ensures { λ r. ⌜ now (t .exit) ≡ lookDistance (castRayOf (siteOf (now (head .entry)) (now (counts .entry))) (tables (now (points .entry)) (now (boxes .entry)) (now (polygons .entry)) (now (owners .entry)) (now (starts .entry)) (now (items .entry))) (vec ox oy) (vec dx dy) length) ⌝ }
-    ensures { λ r. ⌜ now (found .exit) ≡ lookThree (castRayOf (siteOf (now (head .entry)) (now (counts .entry))) (tables (now (points .entry)) (now (boxes .entry)) (now (polygons .entry)) (now (owners .entry)) (now (starts .entry)) (now (items .entry))) (vec ox oy) (vec dx dy) length) ⌝ }
+    ensures { λ r. ⌜ r ≡ lookStatus (castRayOf (siteOf (now (head .entry)) (now (counts .entry))) (tables (now (points .entry)) (now (boxes .entry)) (now (polygons .entry)) (now (owners .entry)) (now (starts .entry)) (now (items .entry))) (vec ox oy) (vec dx dy) length mode) ⌝ }
+    ensures { λ r. ⌜ now (t .exit) ≡ lookDistance (castRayOf (siteOf (now (head .entry)) (now (counts .entry))) (tables (now (points .entry)) (now (boxes .entry)) (now (polygons .entry)) (now (owners .entry)) (now (starts .entry)) (now (items .entry))) (vec ox oy) (vec dx dy) length mode) ⌝ }
+    ensures { λ r. ⌜ now (found .exit) ≡ lookThree (castRayOf (siteOf (now (head .entry)) (now (counts .entry))) (tables (now (points .entry)) (now (boxes .entry)) (now (polygons .entry)) (now (owners .entry)) (now (starts .entry)) (now (items .entry))) (vec ox oy) (vec dx dy) length mode) ⌝ }
 {
     let a = scene::cast_ray(
         answers::site_of(head, counts),
@@ -220,6 +222,7 @@ pub extern "C" fn bf_scene_cast_ray(
         Vec2 { x: ox, y: oy },
         Vec2 { x: dx, y: dy },
         length,
+        mode,
     );
     *t = answers::look_distance(a);
     answers::put_look(found, a);

@@ -26,6 +26,7 @@ pub extern "C" fn bf_compute_visibility(
     items: &[u32],
     cone: &[f64; 5],
     tolerance: f64,
+    mode: u32,
     entries: &[u32; 9],
     marks: &mut [u32],
     epoch: &mut u32,
@@ -35,7 +36,7 @@ pub extern "C" fn bf_compute_visibility(
     visible: &mut [u32],
     answer: &mut [u64; 9],
 ) -> u32
-    ensures { λ r. ⌜ Draws (outcome (siteOf (now (head .entry)) (now (counts .entry))) (tables (now (points .entry)) (now (boxes .entry)) (now (polygons .entry)) (now (owners .entry)) (now (starts .entry)) (now (items .entry))) (coneOf (now (cone .entry))) tolerance (roomsOf (now (entries .entry)))
+    ensures { λ r. ⌜ Draws (outcome (siteOf (now (head .entry)) (now (counts .entry))) (tables (now (points .entry)) (now (boxes .entry)) (now (polygons .entry)) (now (owners .entry)) (now (starts .entry)) (now (items .entry))) (coneOf (now (cone .entry))) tolerance mode (roomsOf (now (entries .entry)))
         (lent (now (marks .entry)) (now (epoch .entry)) (now (floats .entry)) (now (words .entry)) (now (outline .entry)) (now (visible .entry)))) r (lent (now (marks .exit)) (now (epoch .exit)) (now (floats .exit)) (now (words .exit)) (now (outline .exit)) (now (visible .exit))) (now (answer .exit)) ⌝ }
 {
     let a = visibility::compute_visibility(
@@ -48,6 +49,7 @@ pub extern "C" fn bf_compute_visibility(
         items,
         numbers::cone_of(cone),
         tolerance,
+        mode,
         numbers::rooms_of(entries),
         marks,
         epoch,
@@ -73,6 +75,7 @@ pub extern "C" fn bf_inner_compute_visibility(
     items: &[u32],
     cone: &[f64; 5],
     tolerance: f64,
+    mode: u32,
     entries: &[u32; 9],
     marks: &mut [u32],
     epoch: &mut u32,
@@ -83,7 +86,7 @@ pub extern "C" fn bf_inner_compute_visibility(
     answer: &mut [u64; 9],
 ) -> u32
     requires { ⌜ Sound (siteOf (now head) (now counts)) (tables (now points) (now boxes) (now polygons) (now owners) (now starts) (now items)) ⌝ }
-    ensures { λ r. ⌜ Draws (seenFromOf (siteOf (now (head .entry)) (now (counts .entry))) (tables (now (points .entry)) (now (boxes .entry)) (now (polygons .entry)) (now (owners .entry)) (now (starts .entry)) (now (items .entry))) (coneOf (now (cone .entry))) tolerance (roomsOf (now (entries .entry)))
+    ensures { λ r. ⌜ Draws (seenFromOf (siteOf (now (head .entry)) (now (counts .entry))) (tables (now (points .entry)) (now (boxes .entry)) (now (polygons .entry)) (now (owners .entry)) (now (starts .entry)) (now (items .entry))) (coneOf (now (cone .entry))) tolerance mode (roomsOf (now (entries .entry)))
         (lent (now (marks .entry)) (now (epoch .entry)) (now (floats .entry)) (now (words .entry)) (now (outline .entry)) (now (visible .entry)))) r (lent (now (marks .exit)) (now (epoch .exit)) (now (floats .exit)) (now (words .exit)) (now (outline .exit)) (now (visible .exit))) (now (answer .exit)) ⌝ }
 {
     let a = view::seen_from(
@@ -96,6 +99,7 @@ pub extern "C" fn bf_inner_compute_visibility(
         items,
         numbers::cone_of(cone),
         tolerance,
+        mode,
         numbers::rooms_of(entries),
         marks,
         epoch,

@@ -30,7 +30,7 @@ use Rattle.room.proofs.Kept.{edges-kept}
 use Rattle.index.specs.declared.AngularIndex.{AngularIndex}
 use Rattle.index.specs.declared.Indexed.{Indexed}
 use Rattle.index.specs.declared.Spans.{Spans}
-use Rattle.index.specs.Spans.{bucketsFor, headOf, spansOf, covers, edgeBits}
+use Rattle.index.specs.Spans.{bucketsFor, headOf, bucketOf, clipOf, spansBy, spansOf, covers, edgeBits}
 use Rattle.index.specs.Angular.{inBucket, nearer, nearestFirst, Index, bucketEdges, indexOf, refsOf}
 use Rattle.index.specs.Stands.{refsAt, indexIn, Within, Ready, overOf, Builds}
 use Rattle.index.specs.Filling.{spansAt, orderIn, refsBy, manyBy, countTo, refsTo, Fillable, Held, Filled}
@@ -46,20 +46,27 @@ all-bucket {A} spans P (e ∷ es) b h =
     on true l k = (h .0, k)
     on false l k = k
 
-head-few : (n : ℕ) (total : Float) → (0 < headOf n total .buckets) × (headOf n total .buckets ≤ 65536)
+head-few : (mode n : ℕ) (total : Float) → (0 < headOf mode n total .buckets) × (headOf mode n total .buckets ≤ 65536)
 unfolding headOf bucketsFor
-head-few n total = (omega arith, omega arith)
+head-few mode n total = (omega arith, omega arith)
+
+-- the mode does not move an edge
+sum-mode : (mode : ℕ) (total : Float) (es : List LocalEdge)
+    → sumTo (λ b. length (bucketEdges (headOf mode (length es) total) total es b)) (headOf mode (length es) total .buckets)
+    ≡ sumTo (λ b. length (bucketEdges (headOf 0 (length es) total) total es b)) (headOf 0 (length es) total .buckets)
+unfolding headOf bucketEdges spansBy clipOf bucketOf
+sum-mode mode total es = refl
 
 made : AngularIndex → List (List LocalEdge) → Index
 made x l = record { head = x; buckets = l }
 
-module _ (k : Rooms) (floats : List Float) (words : List ℕ) (n : ℕ) (total : Float) (ready : Ready k floats words n) (w₁ : List ℕ) (at en : ℕ) (hat : at ≡ nearestW k) (hen : en ≡ eventsW k)
-    (ord : Ordered (keyOrder (part 0 (0 + n) floats) n) at en words w₁) (x : AngularIndex) (hx : x ≡ headOf n total) where
+module _ (mode : ℕ) (k : Rooms) (floats : List Float) (words : List ℕ) (n : ℕ) (total : Float) (ready : Ready k floats words n) (w₁ : List ℕ) (at en : ℕ) (hat : at ≡ nearestW k) (hen : en ≡ eventsW k)
+    (ord : Ordered (keyOrder (part 0 (0 + n) floats) n) at en words w₁) (x : AngularIndex) (hx : x ≡ headOf mode n total) where
   ordered : Only (nearestW k) (eventsW k) words w₁
   ordered = subst (λ (q : ℕ). Only q (eventsW k) words w₁) hat (subst (λ (q : ℕ). Only at q words w₁) hen (ord .only))
 
   pub some-few : (0 < x .buckets) × (x .buckets ≤ 65536)
-  some-few = subst (λ (h : AngularIndex). (0 < h .buckets) × (h .buckets ≤ 65536)) (sym hx) (head-few n total)
+  some-few = subst (λ (h : AngularIndex). (0 < h .buckets) × (h .buckets ≤ 65536)) (sym hx) (head-few mode n total)
 
   ready₁ : Ready k floats w₁ n
   ready₁ = record { fit = record { floats-fit = ready .fit .floats-fit; words-fit = omega (arith, ready .fit .words-fit, ordered .long) }; held = ready .held }
@@ -88,8 +95,8 @@ module _ (k : Rooms) (floats : List Float) (words : List ℕ) (n : ℕ) (total :
   numbers₁ : part (edgesW k) (nearestW k) w₁ ≡ part (edgesW k) (nearestW k) words
   numbers₁ = only-part (edgesW k) (nearestW k) ordered (inl (le-refl _))
 
-  head-is : x ≡ headOf (length (edgesIn k floats words n)) total
-  head-is = hx ∙ ap (λ (q : ℕ). headOf q total) (sym (length-listed (edgeAt k floats words) n))
+  head-is : x ≡ headOf mode (length (edgesIn k floats words n)) total
+  head-is = hx ∙ ap (λ (q : ℕ). headOf mode q total) (sym (length-listed (edgeAt k floats words) n))
 
   -- how many references there are
   many-is : manyBy k floats x total (orderIn k w₁ n) ≡ refsOf total (edgesIn k floats words n)
@@ -98,6 +105,7 @@ module _ (k : Rooms) (floats : List Float) (words : List ℕ) (n : ℕ) (total :
       sumTo-ext (λ b. length (refsBy k floats x total (orderIn k w₁ n) b)) (λ b. length (bucketEdges x total (edgesIn k floats words n) b)) (x .buckets)
       (λ b l. sym (length-map (refsBy k floats x total (orderIn k w₁ n) b) (edgeAt k floats w₁)) ∙ ap length (bucket-read w₁ numbers₁ b))
       ∙ ap (λ (h : AngularIndex). sumTo (λ b. length (bucketEdges h total (edgesIn k floats words n) b)) (h .buckets)) head-is
+      ∙ sum-mode mode total (edgesIn k floats words n)
 
   -- each edge is once in the order
   alike : (b : ℕ) → length (refsBy k floats x total (orderIn k w₁ n) b) ≡ countTo k floats x total n b
@@ -118,7 +126,7 @@ module _ (k : Rooms) (floats : List Float) (words : List ℕ) (n : ℕ) (total :
 
   -- ---- it passes its entries
   module _ (refs : ℕ) (hr : refs ≡ refsTo k floats x total n) where
-    over-by : overOf k (x .buckets) refs ≡ true → Builds k floats words n total (record { index = x; refs = refs; over = true }) w₁
+    over-by : overOf k (x .buckets) refs ≡ true → Builds mode k floats words n total (record { index = x; refs = refs; over = true }) w₁
     over-by e = record {
       head = hx;
       refs = hr ∙ refs-are ∙ many-is;
@@ -130,10 +138,10 @@ module _ (k : Rooms) (floats : List Float) (words : List ℕ) (n : ℕ) (total :
       filled = only-refl (startsW k) (samplesW k) w₁;
     }
 
-    pub over-starts : k .starts ≤ x .buckets → Builds k floats words n total (record { index = x; refs = refs; over = true }) w₁
+    pub over-starts : k .starts ≤ x .buckets → Builds mode k floats words n total (record { index = x; refs = refs; over = true }) w₁
     over-starts h = over-by (rw (lt-ltb (k .starts) (x .buckets + 1) (omega arith)))
 
-    pub over-refs : x .buckets < k .starts → k .refs < refs → Builds k floats words n total (record { index = x; refs = refs; over = true }) w₁
+    pub over-refs : x .buckets < k .starts → k .refs < refs → Builds mode k floats words n total (record { index = x; refs = refs; over = true }) w₁
     over-refs fits h = over-by (rw (le-ltb (k .starts) (x .buckets + 1) (omega arith), lt-ltb (k .refs) refs h))
 
   -- ---- the starts fit
@@ -143,7 +151,7 @@ module _ (k : Rooms) (floats : List Float) (words : List ℕ) (n : ℕ) (total :
 
     module _ (r : Indexed) (w₂ : List ℕ) (f : Filled k floats x total n w₁ r w₂) where
       -- the index that stands in the room
-      stands-in : Held k floats x total n w₁ w₂ → indexIn k floats w₂ x ≡ indexOf total (edgesIn k floats words n)
+      stands-in : Held k floats x total n w₁ w₂ → indexIn k floats w₂ x ≡ indexOf mode total (edgesIn k floats words n)
       unfolding indexIn indexOf made
       stands-in s =
           let numbers : part (edgesW k) (nearestW k) w₂ ≡ part (edgesW k) (nearestW k) words = only-part (edgesW k) (nearestW k) (f .only) (inl (omega arith)) ∙ only-part (edgesW k) (nearestW k) (f .noted) (inl (omega arith)) ∙ numbers₁ in
@@ -160,7 +168,7 @@ module _ (k : Rooms) (floats : List Float) (words : List ℕ) (n : ℕ) (total :
             (rw order-is (all-map (λ i. i < n) (λ i. i < k .edges) (λ i l. omega (arith, ready .held)) (keyOrder (part 0 (0 + n) floats) n) (order-below (part 0 (0 + n) floats) n))));
       }
 
-      pub done : Builds k floats words n total r w₂
+      pub done : Builds mode k floats words n total r w₂
       done =
           let e : r .index .buckets ≡ x .buckets = ap (λ (q : AngularIndex). q .buckets) (f .index) in
           record {

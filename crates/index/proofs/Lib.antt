@@ -12,3 +12,5 @@ pub mod Fills
 pub mod Builds
 pub mod Kept
 pub mod Hits
+pub mod Rusts
+pub mod Lowest

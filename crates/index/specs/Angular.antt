@@ -35,15 +35,15 @@ unfoldable pub bucketEdges : AngularIndex → Float → List LocalEdge → ℕ �
 unfolding nearestFirst spansBy
 bucketEdges x total es b = inBucket (spansOf x total) (nearestFirst es) b
 
--- the index of the edges over the angle `total`
-unfoldable pub indexOf : Float → List LocalEdge → Index
+-- the index of the edges over the angle `total`, for casts in a mode
+unfoldable pub indexOf : ℕ → Float → List LocalEdge → Index
 unfolding headOf bucketEdges
-indexOf total es = record {
-  head = headOf (length es) total;
-  buckets = listed (bucketEdges (headOf (length es) total) total es) (headOf (length es) total .buckets);
+indexOf mode total es = record {
+  head = headOf mode (length es) total;
+  buckets = listed (bucketEdges (headOf mode (length es) total) total es) (headOf mode (length es) total .buckets);
 }
 
--- how many references it has: as many as its buckets have edges, all told
+-- how many references it has: as many as its buckets have edges, all told. The mode does not count
 unfoldable pub refsOf : Float → List LocalEdge → ℕ
 unfolding headOf bucketEdges
-refsOf total es = sumTo (λ b. length (bucketEdges (headOf (length es) total) total es b)) (headOf (length es) total .buckets)
+refsOf total es = sumTo (λ b. length (bucketEdges (headOf 0 (length es) total) total es b)) (headOf 0 (length es) total .buckets)

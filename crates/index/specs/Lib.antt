@@ -2,5 +2,6 @@
 pub mod Spans
 pub mod Angular
 pub mod Casting
+pub mod Rust
 pub mod Stands
 pub mod Filling

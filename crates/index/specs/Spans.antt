@@ -19,10 +19,10 @@ use Rattle.index.specs.declared.Spans.{Spans}
 unfoldable pub bucketsFor : ℕ → ℕ
 bucketsFor n = min (max (2 * n) 16) 65536
 
--- the head of an index of n edges over the angle `total`: how many buckets, and how many to a radian
-unfoldable pub headOf : ℕ → Float → AngularIndex
+-- the head of an index of n edges over the angle `total`: how many buckets, how many to a radian, and the mode of its casts
+unfoldable pub headOf : ℕ → ℕ → Float → AngularIndex
 unfolding bucketsFor
-headOf n total = record { «inv_width» = countF (bucketsFor n) ⊘ total; buckets = bucketsFor n }
+headOf mode n total = record { «inv_width» = countF (bucketsFor n) ⊘ total; buckets = bucketsFor n; mode = mode }
 
 -- the bucket of the angle a: past the last one, the last
 unfoldable pub bucketOf : AngularIndex → Float → ℕ

@@ -1,8 +1,8 @@
 // The front edges by angle, and the cast of a ray: `AngularIndex` and `span_buckets` of `visibility.rs` (lines 520 to 610).
 // The edges stay where they stand in the work room. The index is an order of nearness, the starts of the buckets, and references, which are
 // places of edges: each list in its own stretch of the lent words. Every read of a cast is total.
-// Meanings: specs/Spans.antt (buckets), specs/Angular.antt (the index), specs/Casting.antt (the cast), specs/Stands.antt (where it stands),
-// specs/Filling.antt (the passes of the building).
+// Meanings: specs/Spans.antt (buckets), specs/Angular.antt (the index), specs/Casting.antt (the cast in both modes), specs/Rust.antt (the Rust's by
+// itself), specs/Stands.antt (where it stands), specs/Filling.antt (the passes of the building).
 use geom::Reach;
 use geom::Vec2;
 use lists::wide;
@@ -11,16 +11,17 @@ use site::Cast;
 ghost use mathlib.Core.Path.{_≡_};
 ghost use mathlib.Core.Bool.{true};
 ghost use mathlib.Core.List.{[], map};
-ghost use Prim.Native.Nat.{ℕ, suc, _<_, _≤_, max};
+ghost use Prim.Native.Nat.{ℕ, suc, _+_, _<_, _≤_, max};
 ghost use lib.ListN.{length, getD, take, drop};
 ghost use Rattle.lists.specs.Lists.{bit, sumTo};
 ghost use Rattle.lists.specs.Parts.{part};
 ghost use Rattle.tables.specs.Scatter.{Room, Put};
+ghost use Rattle.geom.specs.Constants.{nano};
 ghost use Rattle.geom.specs.Segment.{raySegmentWithin};
 ghost use Rattle.room.specs.Records.{edgeAt};
 ghost use Rattle.index.specs.Spans.{bucketsFor, headOf, bucketOf, clipOf, spansBy, widthOf, covers, edgeBits};
-ghost use Rattle.index.specs.Casting.{betterOf, turnedOf, noneYet, walkOf, castWithin, castOf};
-ghost use Rattle.index.specs.Stands.{indexIn, Ready, Builds};
+ghost use Rattle.index.specs.Casting.{lowerOf, betterOf, stopOf, turnedOf, noneYet, walkOf, testedOf, tiesAt, castWithin, castOf};
+ghost use Rattle.index.specs.Stands.{indexIn, WalkedAt, Ready, Builds};
 ghost use Rattle.index.specs.Filling.{spansAt, refsTo, notesW, saidOf, saidBy, meetsOf, cutOf, cutBoth, Notable, Notes, tallyOf, Marked, Counting, Counted, Endable, Ended, PutRoom, PutBoth, Putting, Placed, Fillable, Filled};
 
 const TAU: f64 = 6.283185307179586;
@@ -34,10 +35,11 @@ const STRIP: usize = 512;
 // The note that says nothing. Every strip of buckets meets it.
 const UNSAID: u32 = 65535;
 
-// The head of an index. Its lists stand in the work room.
+// The head of an index. Its lists stand in the work room. The mode is that of its casts: 0 for the Rust's rule, 1 for ties credited.
 pub struct AngularIndex {
     pub inv_width: f64,
     pub buckets: u32,
+    pub mode: u32,
 }
 
 // Buckets from one up to another, that one out. None where it ends where it begins, or before.
@@ -75,13 +77,14 @@ fn buckets_for(n: usize) -> u32
 }
 
 // The head of the index of n edges. `total` is the angle covered by the cone (TAU for a full circle).
-fn head(n: usize, total: f64) -> AngularIndex
-    ensures { λ r. ⌜ r ≡ headOf n total ⌝ }
+fn head(mode: u32, n: usize, total: f64) -> AngularIndex
+    ensures { λ r. ⌜ r ≡ headOf mode n total ⌝ }
 {
     let buckets = buckets_for(n);
     AngularIndex {
         inv_width: buckets as f64 / total,
         buckets,
+        mode,
     }
 }
 
@@ -134,11 +137,13 @@ fn span_buckets(x: AngularIndex, total: f64, start: f64, len: f64) -> Spans
 
 // ---- the cast
 
-// The best hit so far: the distance to beat, and the number of the edge once one is found.
-struct Best {
-    t: f64,
-    edge: u32,
-    found: bool,
+// The best hit so far: the distance to beat, the number of the edge once one is found, and whether a further one was met at exactly that distance,
+// which only counts in mode 1.
+pub struct Best {
+    pub t: f64,
+    pub edge: u32,
+    pub found: bool,
+    pub tied: bool,
 }
 
 // The two ends of an edge.
@@ -177,15 +182,51 @@ fn ends_at(k: Rooms, floats: &[f64], i: u32) -> Ends
 }
 
 // The number of the edge i in the site. It does not go by the floats.
-fn number_at(k: Rooms, words: &[u32], i: u32) -> u32
+pub fn number_at(k: Rooms, words: &[u32], i: u32) -> u32
     ensures { λ r. ⌜ r ≡ edgeAt k [] (now (words .entry)) i .edge ⌝ }
 {
     lists::at32(words, room::edges_w(k) + wide(i))
 }
 
+// Of equal distances: in mode 0 the best so far stays, in the other the lower number, once there is one.
+fn lower(mode: u32, edge: u32, b: Best) -> Best
+    ensures { λ r. ⌜ r ≡ lowerOf mode edge b ⌝ }
+{
+    if mode == 0 {
+        return b;
+    }
+    if !b.found {
+        return b;
+    }
+    if edge < b.edge {
+        return Best {
+            t: b.t,
+            edge,
+            found: true,
+            tied: true,
+        };
+    }
+    Best {
+        t: b.t,
+        edge: b.edge,
+        found: true,
+        tied: true,
+    }
+}
+
 // The better of the best so far and the edge i, which has these ends.
-fn meet(k: Rooms, slack: f64, o: Vec2, dir: Vec2, e: Ends, words: &[u32], i: u32, b: Best) -> Best
-    ensures { λ r. ⌜ r ≡ betterOf (raySegmentWithin slack o dir (e .a) (e .b)) (edgeAt k [] (now (words .entry)) i .edge) b ⌝ }
+fn meet(
+    k: Rooms,
+    slack: f64,
+    o: Vec2,
+    dir: Vec2,
+    mode: u32,
+    e: Ends,
+    words: &[u32],
+    i: u32,
+    b: Best,
+) -> Best
+    ensures { λ r. ⌜ r ≡ betterOf mode (raySegmentWithin slack o dir (e .a) (e .b)) (edgeAt k [] (now (words .entry)) i .edge) b ⌝ }
 {
     let best = b.t;
     match geom::ray_segment_within(slack, o, dir, e.a, e.b) {
@@ -195,7 +236,11 @@ fn meet(k: Rooms, slack: f64, o: Vec2, dir: Vec2, e: Ends, words: &[u32], i: u32
                     t,
                     edge: number_at(k, words, i),
                     found: true,
+                    tied: false,
                 };
+            }
+            if t == best {
+                return lower(mode, number_at(k, words, i), b);
             }
             b
         }
@@ -203,7 +248,24 @@ fn meet(k: Rooms, slack: f64, o: Vec2, dir: Vec2, e: Ends, words: &[u32], i: u32
     }
 }
 
-// The edges that the words from one place up to another name, in turn, until one is not nearer than the best.
+// Does an edge so near end the walk? In mode 0 one that is not nearer than the best does, in the other one that is farther.
+fn stops(mode: u32, best: f64, near: f64) -> bool
+    ensures { λ r. ⌜ r ≡ stopOf mode best near ⌝ }
+{
+    if mode == 0 {
+        return near >= best;
+    }
+    near > best
+}
+
+// What a walk comes to: the best, and the words from one place up to another, which name the edges tested.
+pub struct Walked {
+    pub best: Best,
+    pub from: usize,
+    pub to: usize,
+}
+
+// The edges that the words from one place up to another name, in turn, until one ends the walk.
 fn walk(
     k: Rooms,
     slack: f64,
@@ -213,29 +275,40 @@ fn walk(
     to: usize,
     o: Vec2,
     dir: Vec2,
+    mode: u32,
     max: f64,
-) -> Best
-    ensures { λ r. ⌜ r ≡ walkOf slack o dir (noneYet max) (map (edgeAt k (now (floats .entry)) (now (words .entry))) (part from to (now (words .entry)))) ⌝ }
+) -> Walked
+    ensures { λ r. ⌜ r .best ≡ walkOf slack o dir mode (noneYet max) (map (edgeAt k (now (floats .entry)) (now (words .entry))) (part from to (now (words .entry)))) ⌝ }
+    ensures { λ r. ⌜ (r .from ≡ from) × (r .to ≡ from + length (testedOf slack o dir mode (noneYet max) (map (edgeAt k (now (floats .entry)) (now (words .entry))) (part from to (now (words .entry)))))) ⌝ }
 {
     let end = if to < words.len() { to } else { words.len() };
     let mut b = Best {
         t: max,
         edge: 0,
         found: false,
+        tied: false,
     };
     let mut j = from;
     while j < end {
         let i = words[j];
         let near = lists::at64(floats, wide(i));
         let best = b.t;
-        if near >= best {
-            return b;
+        if stops(mode, best, near) {
+            return Walked {
+                best: b,
+                from,
+                to: j,
+            };
         }
         let e = ends_at(k, floats, i);
-        b = meet(k, slack, o, dir, e, words, i, b);
+        b = meet(k, slack, o, dir, mode, e, words, i, b);
         j += 1;
     }
-    b
+    Walked {
+        best: b,
+        from,
+        to: j,
+    }
 }
 
 // The angle of a ray past the seam of a full circle, brought back.
@@ -246,6 +319,39 @@ fn turned(angle: f64) -> f64
         return angle - TAU;
     }
     angle
+}
+
+// The walk of the bucket that the angle lies in: what a cast is made of.
+pub fn walk_at(
+    slack: f64,
+    k: Rooms,
+    x: AngularIndex,
+    floats: &[f64],
+    words: &[u32],
+    o: Vec2,
+    angle: f64,
+    dir: Vec2,
+    max: f64,
+) -> Walked
+    ensures { λ r. ⌜ WalkedAt slack k x (now (floats .entry)) (now (words .entry)) o angle dir max (r .best) (r .from) (r .to) ⌝ }
+{
+    if x.buckets == 0 {
+        return Walked {
+            best: Best {
+                t: max,
+                edge: 0,
+                found: false,
+                tied: false,
+            },
+            from: 0,
+            to: 0,
+        };
+    }
+    let at = room::starts_w(k) + bucket(x, num::max(turned(angle), 0.0));
+    let refs = room::refs_w(k);
+    let from = refs + wide(lists::at32(words, at));
+    let to = refs + wide(lists::at32(words, at + 1));
+    walk(k, slack, floats, words, from, to, o, dir, x.mode, max)
 }
 
 // The nearest edge that the ray from o along dir, at the angle from the cone's start, hits within max. `slack` is that of `ray_segment_within`.
@@ -262,14 +368,8 @@ pub fn cast_within(
 ) -> Cast
     ensures { λ r. ⌜ r ≡ castWithin slack (indexIn k (now (floats .entry)) (now (words .entry)) x) o angle dir max ⌝ }
 {
-    if x.buckets == 0 {
-        return Cast::Miss;
-    }
-    let at = room::starts_w(k) + bucket(x, num::max(turned(angle), 0.0));
-    let refs = room::refs_w(k);
-    let from = refs + wide(lists::at32(words, at));
-    let to = refs + wide(lists::at32(words, at + 1));
-    let b = walk(k, slack, floats, words, from, to, o, dir, max);
+    let w = walk_at(slack, k, x, floats, words, o, angle, dir, max);
+    let b = w.best;
     if b.found {
         return Cast::Hit(b.t, b.edge);
     }
@@ -290,6 +390,17 @@ pub fn cast(
     ensures { λ r. ⌜ r ≡ castOf (indexIn k (now (floats .entry)) (now (words .entry)) x) o angle dir max ⌝ }
 {
     cast_within(1e-9, k, x, floats, words, o, angle, dir, max)
+}
+
+// Does the ray meet the edge i at exactly the distance t?
+pub fn ties(k: Rooms, floats: &[f64], o: Vec2, dir: Vec2, t: f64, i: u32) -> bool
+    ensures { λ r. ⌜ r ≡ tiesAt nano o dir t (edgeAt k (now (floats .entry)) [] i) ⌝ }
+{
+    let e = ends_at(k, floats, i);
+    match geom::ray_segment_within(1e-9, o, dir, e.a, e.b) {
+        Reach::Hit(s) => s == t,
+        Reach::Miss => false,
+    }
 }
 
 // ---- the building
@@ -584,11 +695,18 @@ fn fill(
     }
 }
 
-// `AngularIndex::build` of the Rust: the n edges of the room by angle. `total` is the angle covered by the cone (TAU for a full circle). Where the
+// `AngularIndex::build` of the Rust: the n edges of the room by angle, for casts in a mode. `total` is the angle covered by the cone (TAU for a full circle). Where the
 // starts pass their entries, neither they nor the references are written. Where the references do, they are not written, and the starts hold anything.
-pub fn build(k: Rooms, n: usize, total: f64, floats: &[f64], words: &mut [u32]) -> Indexed
+pub fn build(
+    mode: u32,
+    k: Rooms,
+    n: usize,
+    total: f64,
+    floats: &[f64],
+    words: &mut [u32],
+) -> Indexed
     requires { ⌜ Ready k (now floats) (now words) n ⌝ }
-    ensures { λ r. ⌜ Builds k (now (floats .entry)) (now (words .entry)) n total r (now (words .exit)) ⌝ }
+    ensures { λ r. ⌜ Builds mode k (now (floats .entry)) (now (words .entry)) n total r (now (words .exit)) ⌝ }
 {
     sorts::order_keys(
         floats,
@@ -598,7 +716,7 @@ pub fn build(k: Rooms, n: usize, total: f64, floats: &[f64], words: &mut [u32]) 
         room::nearest_w(k),
         room::events_w(k),
     );
-    let x = head(n, total);
+    let x = head(mode, n, total);
     if k.starts <= x.buckets {
         return Indexed {
             index: x,

@@ -75,11 +75,11 @@ seen-way n m points polygons outline visible e k he hk p q =
 
 -- ---- the call of an outline
 module _ (site : Site) (t : Tables) (x y range : Float) (c : ViewCone) (k : Rooms) (l : Lent) (hc : c ≡ fullOf (vec x y) range) (hk : k ≡ rooms) (hl : l ≡ workRoom) where
-  outline-is : outcome site t c tenth k l ≡ outlineOf site t x y range
+  outline-is : outcome site t c tenth 0 k l ≡ outlineOf site t x y range
   unfolding outlineOf
-  outline-is = ap (λ (d : ViewCone). outcome site t d tenth k l) hc ∙ ap (λ (j : Rooms). outcome site t (fullOf (vec x y) range) tenth j l) hk ∙ ap (λ (j : Lent). outcome site t (fullOf (vec x y) range) tenth rooms j) hl
+  outline-is = ap (λ (d : ViewCone). outcome site t d tenth 0 k l) hc ∙ ap (λ (j : Rooms). outcome site t (fullOf (vec x y) range) tenth 0 j l) hk ∙ ap (λ (j : Lent). outcome site t (fullOf (vec x y) range) tenth 0 rooms j) hl
 
-  shown-way : (a b : Visibility) (left : Lent) → out a left ≡ outcome site t c tenth k l → a ≡ b
+  shown-way : (a b : Visibility) (left : Lent) → out a left ≡ outcome site t c tenth 0 k l → a ≡ b
       → shownBy b (t .points) (t .polygons) (left .outline) (left .visible) ≡ shownText site t x y range
   unfolding shownText
   shown-way a b left p h =
@@ -87,19 +87,19 @@ module _ (site : Site) (t : Tables) (x y range : Float) (c : ViewCone) (k : Room
       ∙ ap (λ (o : Outcome). shownBy (o .answer) (t .points) (t .polygons) (o .left .outline) (o .left .visible)) (p ∙ outline-is)
 
   -- the ids seen are distinct polygons of a sound site
-  seen-named : (a : Visibility) (s : Shown) (left : Lent) → out a left ≡ outcome site t c tenth k l → a ≡ visibility.Seen s → Distinct site t (take (s .visible) (left .visible))
+  seen-named : (a : Visibility) (s : Shown) (left : Lent) → out a left ≡ outcome site t c tenth 0 k l → a ≡ visibility.Seen s → Distinct site t (take (s .visible) (left .visible))
   seen-named a s left p h =
       subst (λ (o : Outcome). Distinct site t (take (s .visible) (o .left .visible))) (sym p)
-      (visible-named site t c tenth k l s (ap (λ (o : Outcome). o .answer) (sym p) ∙ h))
+      (visible-named site t c tenth 0 k l s (ap (λ (o : Outcome). o .answer) (sym p) ∙ h))
 
-  pub view-seen : (a : Visibility) (s : Shown) (left : Lent) {o o' : List ℕ} {r : ℕ} → out a left ≡ outcome site t c tenth k l → a ≡ visibility.Seen s
+  pub view-seen : (a : Visibility) (s : Shown) (left : Lent) {o o' : List ℕ} {r : ℕ} → out a left ≡ outcome site t c tenth 0 k l → a ≡ visibility.Seen s
       → length (t .points) ≤ 1024 → length (left .outline) ≤ 4096 → length (left .visible) ≤ 64
       → Printed o 0 (seenText (s .points) (s .visible) (t .points) (t .polygons) (left .outline) (left .visible)) o' r → Told o (shownText site t x y range) o' r
   view-seen a s left p h hp ho hv q =
       told (seenText (s .points) (s .visible) (t .points) (t .polygons) (left .outline) (left .visible)) (shownText site t x y range) (shown-way a (visibility.Seen s) left p h)
       (seen-length (s .points) (s .visible) site t (left .outline) (left .visible) (seen-named a s left p h) hp ho hv) q
 
-  pub view-refused : (a : Visibility) (n : ℕ) (left : Lent) {o o' : List ℕ} {r : ℕ} → out a left ≡ outcome site t c tenth k l → a ≡ visibility.Refused n
+  pub view-refused : (a : Visibility) (n : ℕ) (left : Lent) {o o' : List ℕ} {r : ℕ} → out a left ≡ outcome site t c tenth 0 k l → a ≡ visibility.Refused n
       → Printed o 0 (refusedText n) o' r → Told o (shownText site t x y range) o' r
   view-refused a n left p h q = told (refusedText n) (shownText site t x y range) (shown-way a (visibility.Refused n) left p h) (refused-length n) q
 

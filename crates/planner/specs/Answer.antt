@@ -47,7 +47,7 @@ shownBy (visibility.Refused n) points polygons outline visible = refusedText n
 
 -- ---- from the post, all around: cone full, tolerance 0.1
 unfoldable pub outlineOf : Site → Tables → Float → Float → Float → Outcome
-outlineOf site t x y range = outcome site t (fullOf (vec x y) range) tenth rooms workRoom
+outlineOf site t x y range = outcome site t (fullOf (vec x y) range) tenth 0 rooms workRoom
 
 unfoldable pub shownText : Site → Tables → Float → Float → Float → List ℕ
 shownText site t x y range = shownBy (outlineOf site t x y range .answer) (t .points) (t .polygons) (outlineOf site t x y range .left .outline) (outlineOf site t x y range .left .visible)

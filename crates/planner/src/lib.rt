@@ -126,6 +126,7 @@ fn print_view(
         items,
         cone,
         0.1,
+        0,
         rooms(),
         &mut marks,
         &mut epoch,

@@ -7,7 +7,8 @@ use native.Mathlib.Omega.{arith}
 use lib.Ieee.{Float}
 use Rattle.geom.specs.declared.Vec2.{Vec2}
 use Rattle.outline.specs.declared.Trace.{Trace}
-use Rattle.outline.specs.Outline.{corner, Out, out, pushOf, Pushed, Own, owned, ownOf, Room, Grown}
+use Rattle.outline.specs.Outline.{corner, Out, out, pushOf, Pushed, Own, owned, Room}
+use Rattle.credit.specs.Credit.{ownAll, Credited}
 use Rattle.refining.specs.declared.End.{End}
 use Rattle.refining.specs.declared.Turn.{Turn}
 use Rattle.refining.specs.declared.Turn.the-variants.{Stop, Open, Hidden}
@@ -39,7 +40,7 @@ module _ (v : Env) (a b : End) (p : List Float) (m : List ℕ) (s : Trace) where
     open-suc e = cc
 
     both-suc : {x : Vec2} {g : Float} {e : ℕ} → t ≡ Hidden x g e
-        → refineOf v f (endOf g e) b (pushing (v .view .o) x e (refineOf v f a (endOf g e) (owning v e (counting (runAt p m s))))) ≡ refineOf v (suc f) a b (runAt p m s)
+        → refineOf v f (endOf g e) b (pushing (v .view .o) x e (refineOf v f a (endOf g e) (owning v (v .credits g e) (counting (runAt p m s))))) ≡ refineOf v (suc f) a b (runAt p m s)
     unfolding refineOf
     both-suc h = cc
 
@@ -47,8 +48,8 @@ module _ (v : Env) (a b : End) (p : List Float) (m : List ℕ) (s : Trace) where
 pub pushed-run : (o x : Vec2) (tag : ℕ) (p p2 : List Float) (m : List ℕ) (s s2 : Trace) → out p2 s2 ≡ pushOf o x tag p s → runAt p2 m s2 ≡ pushing o x tag (runAt p m s)
 pushed-run o x tag p p2 m s s2 h = ap (λ (q : Out). runAt (q .pts) m (q .at)) h
 
-pub owned-run : (v : Env) (e : ℕ) (p : List Float) (m m2 : List ℕ) (s s2 : Trace) → owned m2 s2 ≡ ownOf (v .room) (v .owners) e m s → runAt p m2 s2 ≡ owning v e (runAt p m s)
-owned-run v e p m m2 s s2 h = ap (λ (q : Own). runAt p (q .marks) (q .at)) h
+pub owned-run : (v : Env) (l : List ℕ) (p : List Float) (m m2 : List ℕ) (s s2 : Trace) → owned m2 s2 ≡ ownAll (v .room) (v .owners) l m s → runAt p m2 s2 ≡ owning v l (runAt p m s)
+owned-run v l p m m2 s s2 h = ap (λ (q : Own). runAt p (q .marks) (q .at)) h
 
 -- the same ways, by what the calls answer
 module _ (v : Env) (a b : End) (p : List Float) (m : List ℕ) (s : Trace) (d : ℕ) (hd : d ≤ 32) (ho : s .over ≡ false) {t : Turn} (ht : t ≡ turnOf v a b) where
@@ -62,7 +63,7 @@ module _ (v : Env) (a b : End) (p : List Float) (m : List ℕ) (s : Trace) (d : 
         = pushed-run (v .view .o) x corner p p2 m cs s2 h ∙ ap (λ (q : Trace). pushing (v .view .o) x corner (runAt p m q)) hc in
         rw (fuel d hd) (k ∙ open-suc v a b p m s (33 - (d + 1)) ho ht e)
 
-    pub ref-both : {x : Vec2} {g : Float} {e : ℕ} → t ≡ Hidden x g e → {m2 : List ℕ} {s2 : Trace} → owned m2 s2 ≡ ownOf (v .room) (v .owners) e m cs
+    pub ref-both : {x : Vec2} {g : Float} {e : ℕ} → t ≡ Hidden x g e → {m2 : List ℕ} {s2 : Trace} → owned m2 s2 ≡ ownAll (v .room) (v .owners) (v .credits g e) m cs
         → {p3 p4 p5 : List Float} {m3 m5 : List ℕ} {s3 s4 s5 : Trace}
         → runAt p3 m3 s3 ≡ refineOf v (33 - (d + 1)) a (endOf g e) (runAt p m2 s2)
         → out p4 s4 ≡ pushOf (v .view .o) x e p3 s3
@@ -70,8 +71,9 @@ module _ (v : Env) (a b : End) (p : List Float) (m : List ℕ) (s : Trace) (d : 
         → runAt p5 m5 s5 ≡ refineOf v (33 - d) a b (runAt p m s)
     ref-both {x} {g} {e} hh {m2} {s2} h2 {p3} {p4} {p5} {m3} {m5} {s3} {s4} {s5} h3 h4 h5 =
         let f = 33 - (d + 1) in
-        let e2 : runAt p m2 s2 ≡ owning v e (counting (runAt p m s)) = owned-run v e p m m2 cs s2 h2 ∙ ap (λ (q : Trace). owning v e (runAt p m q)) hc in
-        let e3 : runAt p3 m3 s3 ≡ refineOf v f a (endOf g e) (owning v e (counting (runAt p m s))) = h3 ∙ ap (refineOf v f a (endOf g e)) e2 in
+        let l = v .credits g e in
+        let e2 : runAt p m2 s2 ≡ owning v l (counting (runAt p m s)) = owned-run v l p m m2 cs s2 h2 ∙ ap (λ (q : Trace). owning v l (runAt p m q)) hc in
+        let e3 : runAt p3 m3 s3 ≡ refineOf v f a (endOf g e) (owning v l (counting (runAt p m s))) = h3 ∙ ap (refineOf v f a (endOf g e)) e2 in
         let e4 : runAt p4 m3 s4 ≡ pushing (v .view .o) x e (runAt p3 m3 s3) = pushed-run (v .view .o) x e p3 p4 m3 s3 s4 h4 in
         rw (fuel d hd) (h5 ∙ ap (refineOf v f (endOf g e) b) (e4 ∙ ap (pushing (v .view .o) x e) e3) ∙ both-suc v a b p m s f ho ht hh)
 
@@ -114,8 +116,8 @@ module _ {l room : ℕ} {s : Trace} (rd : Ready l room s) where
           casts = omega (arith, c1, c2, g .owners, g .refinements);
         }
 
-    module _ (ho : s .over ≡ false) {s2 : Trace} (g : Grown room cs s2) where
-      g1 : s2 .owners ≡ s .owners + 1
+    module _ (ho : s .over ≡ false) {s2 : Trace} (g : Credited room cs s2) where
+      g1 : s .owners + 1 ≤ s2 .owners
       g1 = omega (arith, g .grew (c4 ∙ ho), c2)
 
       g2 : s2 .refinements ≡ s .refinements + 1

@@ -1,5 +1,6 @@
--- A ray's point by its direction and by its angle; each way through `crossing`, `look` and `turn_at`, over plain values. Assumes nothing.
-use mathlib.Core.Path.{_≡_, refl, sym}
+-- A ray's point by its direction and by its angle; each way through `crossing`, `look`, `turn_at` and `credit_at`, over plain values. Assumes nothing.
+use mathlib.Core.Path.{_≡_, refl, sym, ap, _∙_}
+use mathlib.Core.List.{List}
 use mathlib.Core.Bool.{Bool, true, false, _&&_}
 use Prim.Native.Nat.{ℕ}
 use lib.Ieee.{Float, lt}
@@ -17,10 +18,16 @@ use Rattle.site.specs.Tables.{edgeOf}
 use Rattle.geom.specs.Segment.{normalOf, segmentIntersectionOf}
 use Rattle.cone.specs.declared.View.{View}
 use Rattle.cone.specs.Cone.{rimOf}
+use Rattle.room.specs.declared.Rooms.{Rooms}
+use Rattle.index.specs.declared.AngularIndex.{AngularIndex}
+use Rattle.index.specs.Stands.{indexIn}
+use Rattle.outline.specs.declared.Trace.{Trace}
+use Rattle.outline.specs.Outline.{Own}
+use Rattle.credit.specs.Credit.{creditsOf, ownAll}
 use Rattle.refining.specs.declared.End.{End}
 use Rattle.refining.specs.declared.Turn.{Turn}
 use Rattle.refining.specs.declared.Turn.the-variants.{Stop, Open, Hidden}
-use Rattle.refining.specs.Refine.{alongOf, pointOf, Env, crossingOf, hides, lookOf, turnOf}
+use Rattle.refining.specs.Refine.{alongOf, pointOf, creditsFor, creditsIn, Env, crossingOf, hides, lookOf, turnOf}
 
 -- the point along the direction of an angle is the point at that angle
 pub along-is : (view : View) (angle : Float) (hit : Cast) → alongOf view (fromAngleOf (view .start ⊕ angle)) hit ≡ pointOf view angle hit
@@ -76,3 +83,11 @@ module _ (view : View) (from : Float) (p : Vec2) {d : Vec2} (hd : d ≡ subOf p 
   pub crossing-there : lt n from ≡ false → n ≡ crossingOf view from p
   unfolding crossingOf
   crossing-there h = rw (sym same, h)
+
+-- the credits at an angle, by its direction
+pub credit-is : (k : Rooms) (x : AngularIndex) (floats : List Float) (words owners : List ℕ) (view : View) (angle : Float) (e room : ℕ) (marks : List ℕ) (s : Trace) {d : Vec2} → d ≡ fromAngleOf (view .start ⊕ angle)
+    → {r : Own} → r ≡ ownAll room owners (creditsOf (indexIn k floats words x) owners (view .o) angle d (view .r) e) marks s
+    → r ≡ ownAll room owners (creditsIn k x floats words owners view angle e) marks s
+unfolding creditsFor
+credit-is k x floats words owners view angle e room marks s hd h =
+    h ∙ ap (λ (d : Vec2). ownAll room owners (creditsOf (indexIn k floats words x) owners (view .o) angle d (view .r) e) marks s) hd

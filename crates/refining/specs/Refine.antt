@@ -22,10 +22,12 @@ use Rattle.room.specs.declared.Rooms.{Rooms}
 use Rattle.cone.specs.declared.View.{View}
 use Rattle.cone.specs.Cone.{rimOf}
 use Rattle.index.specs.declared.AngularIndex.{AngularIndex}
+use Rattle.index.specs.Angular.{Index}
 use Rattle.index.specs.Casting.{castOf}
 use Rattle.index.specs.Stands.{indexIn}
 use Rattle.outline.specs.declared.Trace.{Trace}
-use Rattle.outline.specs.Outline.{corner, trace, pushOf, ownOf, Room}
+use Rattle.outline.specs.Outline.{corner, trace, pushOf, Room}
+use Rattle.credit.specs.Credit.{creditsOf, ownAll}
 use Rattle.refining.specs.declared.End.{End}
 use Rattle.refining.specs.declared.Turn.{Turn}
 use Rattle.refining.specs.declared.Turn.the-variants.{Stop, Open, Hidden}
@@ -48,17 +50,31 @@ pointOf view angle hit = rimOf (view .o) (reachOf (view .r) hit) (view .start �
 unfoldable pub castIn : Rooms → AngularIndex → List Float → List ℕ → View → Float → Cast
 castIn k x floats words view angle = castOf (indexIn k floats words x) (view .o) angle (fromAngleOf (view .start ⊕ angle)) (view .r)
 
--- what a sweep goes by: its casts, the view, the site's tables, and the entries allowed to the owners
+-- the edges that have an entry where it hits the edge e, by the index
+unfoldable pub creditsFor : View → Index → List ℕ → Float → ℕ → List ℕ
+creditsFor view x owners angle e = creditsOf x owners (view .o) angle (fromAngleOf (view .start ⊕ angle)) (view .r) e
+
+abbrev pub creditsIn : Rooms → AngularIndex → List Float → List ℕ → List ℕ → View → Float → ℕ → List ℕ
+creditsIn k x floats words owners view angle e = creditsFor view (indexIn k floats words x) owners angle e
+
+-- what a sweep goes by: its casts and their credits, the view, the site's tables, and the entries allowed to the owners
 pub record Env : Type 0 where
   pub cast : Float → Cast
+  pub credits : Float → ℕ → List ℕ
   pub view : View
   pub points : List Float
   pub polygons : List ℕ
   pub owners : List ℕ
   pub room : ℕ
 
-abbrev pub env : (Float → Cast) → View → List Float → List ℕ → List ℕ → ℕ → Env
-env cast view points polygons owners room = record { cast = cast; view = view; points = points; polygons = polygons; owners = owners; room = room }
+abbrev pub env : (Float → Cast) → (Float → ℕ → List ℕ) → View → List Float → List ℕ → List ℕ → ℕ → Env
+env cast credits view points polygons owners room =
+    record { cast = cast; credits = credits; view = view; points = points; polygons = polygons; owners = owners; room = room }
+
+-- as it stands in the work room
+abbrev pub envIn : Rooms → AngularIndex → List Float → List ℕ → View → List Float → List ℕ → List ℕ → Env
+envIn k x floats words view points polygons owners =
+    env (castIn k x floats words view) (creditsIn k x floats words owners view) view points polygons owners (k .owners)
 
 -- ---- what a crossing comes to
 -- its angle from the view's start; past the seam of a full circle it is a turn more than that of the first end
@@ -116,9 +132,9 @@ counting s = runAt (s .pts) (s .marks) (countedOf (s .at))
 abbrev pub pushing : Vec2 → Vec2 → ℕ → Run → Run
 pushing o p tag s = let q = pushOf o p tag (s .pts) (s .at) in runAt (q .pts) (s .marks) (q .at)
 
--- one owner more
-abbrev pub owning : Env → ℕ → Run → Run
-owning v e s = let q = ownOf (v .room) (v .owners) e (s .marks) (s .at) in runAt (s .pts) (q .marks) (q .at)
+-- the owners of these edges more
+abbrev pub owning : Env → List ℕ → Run → Run
+owning v l s = let q = ownAll (v .room) (v .owners) l (s .marks) (s .at) in runAt (s .pts) (q .marks) (q .at)
 
 -- ---- refining
 abbrev pub endOf : Float → ℕ → End
@@ -128,7 +144,7 @@ endOf a e = record { angle = a; edge = e }
 abbrev pub halve : (End → End → Run → Run) → Env → End → End → Turn → Run → Run
 halve again v a b Stop s = s
 halve again v a b (Open p) s = pushing (v .view .o) p corner (counting s)
-halve again v a b (Hidden p g e) s = again (endOf g e) b (pushing (v .view .o) p e (again a (endOf g e) (owning v e (counting s))))
+halve again v a b (Hidden p g e) s = again (endOf g e) b (pushing (v .view .o) p e (again a (endOf g e) (owning v (v .credits g e) (counting s))))
 
 -- so many depths are left; a run that is over stays as it is
 unfoldable pub refineOf : Env → ℕ → End → End → Run → Run

@@ -13,7 +13,9 @@ use site::Cast;
 ghost use mathlib.Core.Path.{_≡_};
 ghost use Prim.Native.Nat.{_+_, _-_, _^_, _<_};
 ghost use lib.ListN.{length};
-ghost use Rattle.refining.specs.Refine.{reachOf, alongOf, pointOf, castIn, crossingOf, hides, env, lookOf, turnOf, countedOf, runAt, refineOf, Ready, Done};
+ghost use Rattle.outline.specs.Outline.{owned, Room};
+ghost use Rattle.credit.specs.Credit.{ownAll, Credited};
+ghost use Rattle.refining.specs.Refine.{reachOf, alongOf, pointOf, castIn, creditsIn, crossingOf, hides, envIn, lookOf, turnOf, countedOf, runAt, refineOf, Ready, Done};
 
 const TAU: f64 = 6.283185307179586;
 
@@ -139,7 +141,7 @@ fn turn_at(
     a: End,
     b: End,
 ) -> Turn
-    ensures { λ r. ⌜ r ≡ turnOf (env (castIn k x (now (floats .entry)) (now (words .entry)) view) view (now (points .entry)) (now (polygons .entry)) (now (owners .entry)) (k .owners)) a b ⌝ }
+    ensures { λ r. ⌜ r ≡ turnOf (envIn k x (now (floats .entry)) (now (words .entry)) view (now (points .entry)) (now (polygons .entry)) (now (owners .entry))) a b ⌝ }
 {
     let ea = site::edge(points, polygons, owners, a.edge);
     let eb = site::edge(points, polygons, owners, b.edge);
@@ -171,6 +173,40 @@ fn counted(s: Trace) -> Trace
     }
 }
 
+// The credits of a ray of the sweep, which hit the edge e.
+fn credit_at(
+    k: Rooms,
+    x: AngularIndex,
+    floats: &[f64],
+    words: &[u32],
+    owners: &[u32],
+    marks: &mut [u8],
+    view: View,
+    angle: f64,
+    e: u32,
+    s: Trace,
+) -> Trace
+    requires { ⌜ Room (k .owners) s ⌝ }
+    ensures { λ r. ⌜ owned (now (marks .exit)) r ≡ ownAll (k .owners) (now (owners .entry)) (creditsIn k x (now (floats .entry)) (now (words .entry)) (now (owners .entry)) view angle e) (now (marks .entry)) s ⌝ }
+    ensures { λ r. ⌜ Credited (k .owners) s r ⌝ }
+{
+    let o = view.o;
+    credit::credit(
+        k,
+        x,
+        floats,
+        words,
+        owners,
+        marks,
+        o,
+        angle,
+        Vec2::from_angle(view.start + angle),
+        view.r,
+        e,
+        s,
+    )
+}
+
 // The nearest edge switches from that of a to that of b somewhere between their angles. Puts the crossing on the outline, and any edge found in front
 // of it: first what lies before that edge's point, then the point, then what lies behind it.
 pub fn refine(
@@ -190,7 +226,7 @@ pub fn refine(
     s: Trace,
 ) -> Trace
     requires { ⌜ Ready (length (now pts)) (k .owners) s ⌝ }
-    ensures { λ r. ⌜ runAt (now (pts .exit)) (now (marks .exit)) r ≡ refineOf (env (castIn k x (now (floats .entry)) (now (words .entry)) view) view (now (points .entry)) (now (polygons .entry)) (now (owners .entry)) (k .owners)) (33 - depth) a b (runAt (now (pts .entry)) (now (marks .entry)) s) ⌝ }
+    ensures { λ r. ⌜ runAt (now (pts .exit)) (now (marks .exit)) r ≡ refineOf (envIn k x (now (floats .entry)) (now (words .entry)) view (now (points .entry)) (now (polygons .entry)) (now (owners .entry))) (33 - depth) a b (runAt (now (pts .entry)) (now (marks .entry)) s) ⌝ }
     ensures { λ r. ⌜ Done (length (now (pts .entry))) (k .owners) s r ⌝ }
 {
     if 32 < depth {
@@ -206,7 +242,18 @@ pub fn refine(
         Turn::Open(p) => outline::push(pts, counted(s), o, p, CORNER),
         Turn::Hidden(p, angle, edge) => {
             let m = End { angle, edge };
-            let s2 = outline::own(k.owners, owners, marks, counted(s), edge);
+            let s2 = credit_at(
+                k,
+                x,
+                floats,
+                words,
+                owners,
+                marks,
+                view,
+                angle,
+                edge,
+                counted(s),
+            );
             let s3 = refine(
                 k,
                 x,

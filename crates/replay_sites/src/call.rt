@@ -1,4 +1,5 @@
-// The lines that ask a site, by number: 602 to 608 are questions, 701 is an outline. `oracle/src/scene/lines.rs` has the same numbers.
+// The lines that ask a site, by number: 602 to 608 are questions, 701 is an outline, 702 an outline and 703 a ray in a mode. `oracle/src/scene/lines.rs` has the
+// same numbers.
 use crate::outlines;
 use crate::questions;
 use lines::word;
@@ -20,6 +21,20 @@ pub(crate) fn answer(
     if f < 700 {
         return questions::answer(
             f,
+            head,
+            counts,
+            points,
+            boxes,
+            polygons,
+            owners,
+            starts,
+            items,
+            w,
+            out,
+        );
+    }
+    if f == 703 {
+        return questions::answer_ray_in_mode(
             head,
             counts,
             points,

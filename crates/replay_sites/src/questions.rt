@@ -1,4 +1,4 @@
-// Questions to a site: 602 to 608, in the order of `scene.rs`. The words after the number are the arguments. There is room for 16 ids; over that is no answer.
+// Questions to a site: 602 to 608, in the order of `scene.rs`, and 703, a ray in a mode. The words after the number are the arguments. There is room for 16 ids; over that is no answer.
 use crate::results;
 use lines::float;
 use lines::narrow;
@@ -111,8 +111,8 @@ fn answer_at(
     results::two(out, 0, status, &found)
 }
 
-// 604: origin, direction, length.
-fn answer_ray(
+// A ray in a mode.
+fn answer_cast(
     head: &[f64; 6],
     counts: &[u32; 5],
     points: &[f64],
@@ -121,7 +121,8 @@ fn answer_ray(
     owners: &[u32],
     starts: &[u32],
     items: &[u32],
-    w: &[u64],
+    ray: &[f64; 5],
+    mode: u32,
     out: &mut [u64],
 ) -> usize {
     let mut t = 0.0;
@@ -135,15 +136,86 @@ fn answer_ray(
         owners,
         starts,
         items,
+        ray[0],
+        ray[1],
+        ray[2],
+        ray[3],
+        ray[4],
+        mode,
+        &mut t,
+        &mut found,
+    );
+    results::look(out, status, t, &found)
+}
+
+// 604: origin, direction, length; in mode 0.
+fn answer_ray(
+    head: &[f64; 6],
+    counts: &[u32; 5],
+    points: &[f64],
+    boxes: &[f64],
+    polygons: &[u32],
+    owners: &[u32],
+    starts: &[u32],
+    items: &[u32],
+    w: &[u64],
+    out: &mut [u64],
+) -> usize {
+    let ray = [
         float(w, 1),
         float(w, 2),
         float(w, 3),
         float(w, 4),
         float(w, 5),
-        &mut t,
-        &mut found,
-    );
-    results::look(out, status, t, &found)
+    ];
+    answer_cast(
+        head,
+        counts,
+        points,
+        boxes,
+        polygons,
+        owners,
+        starts,
+        items,
+        &ray,
+        0,
+        out,
+    )
+}
+
+// 703: the mode, origin, direction, length.
+pub(crate) fn answer_ray_in_mode(
+    head: &[f64; 6],
+    counts: &[u32; 5],
+    points: &[f64],
+    boxes: &[f64],
+    polygons: &[u32],
+    owners: &[u32],
+    starts: &[u32],
+    items: &[u32],
+    w: &[u64],
+    out: &mut [u64],
+) -> usize {
+    let ray = [
+        float(w, 2),
+        float(w, 3),
+        float(w, 4),
+        float(w, 5),
+        float(w, 6),
+    ];
+    answer_cast(
+        head,
+        counts,
+        points,
+        boxes,
+        polygons,
+        owners,
+        starts,
+        items,
+        &ray,
+        narrow(w, 1),
+        out,
+    )
 }
 
 // The first n ids of the cell of a point, after the words of out.

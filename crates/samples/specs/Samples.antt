@@ -119,9 +119,9 @@ abbrev pub lookRow : Look → List ℕ
 lookRow (look.Refused n) = n ∷ []
 lookRow (look.Seen hit cells) = 0 ∷ cells ∷ castRow hit
 
--- the ray from (x, y) along (1, 0), length 100
+-- the ray from (x, y) along (1, 0), length 100, in mode 0
 abbrev pub ray : Float → Float → Site → Tables → List ℕ
-ray x y s t = lookRow (castRayOf s t (vec x y) (vec oneF zeroF) (countF 100))
+ray x y s t = lookRow (castRayOf s t (vec x y) (vec oneF zeroF) (countF 100) 0)
 
 -- ---- THE TABLE: what the definitions answer, a row for each sample, by the sites. P7 is asked of any generator
 unfoldable pub rowsBy : Rng → Outcome → Outcome → Outcome → Outcome → List (List ℕ)

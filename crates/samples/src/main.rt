@@ -151,7 +151,7 @@ fn show_cast(hit: Cast) {
     }
 }
 
-// The ray from o along (1, 0), length 100.
+// The ray from o along (1, 0), length 100, in mode 0.
 fn show_ray(
     text: &[u8],
     site: Site,
@@ -175,6 +175,7 @@ fn show_ray(
         o,
         d,
         100.0,
+        0,
     );
     print(text);
     match r {
@@ -248,6 +249,7 @@ fn show_post(
         items,
         cone,
         visibility::default_tolerance(),
+        0,
         rooms(),
         &mut marks,
         &mut epoch,

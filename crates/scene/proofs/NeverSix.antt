@@ -30,7 +30,7 @@ pub record NeverSix (site : Site) (t : Tables) : Type 0 where
   pub polygons-near : (b : Aabb) (m : List ℕ) (e : ℕ) (ids : List ℕ) → listedStatus (polygonsNearOf site t b m e ids .answer) ≡ 6 → ⊥
   pub items-at : (p : Vec2) → countStatus (itemsAtNumberOf site t p) ≡ 6 → ⊥
   pub polygon-at : (p : Vec2) → foundStatus (polygonAtOf site t p) ≡ 6 → ⊥
-  pub cast-ray : (o d : Vec2) (len : Float) → lookStatus (castRayOf site t o d len) ≡ 6 → ⊥
+  pub cast-ray : (o d : Vec2) (len : Float) (mode : ℕ) → lookStatus (castRayOf site t o d len mode) ≡ 6 → ⊥
 
 module _ (site : Site) (t : Tables) (s : Sound site t) where
   -- of whatever is checked for its tables first
@@ -52,5 +52,5 @@ module _ (site : Site) (t : Tables) (s : Sound site t) where
     polygons-near = λ b m e ids. not-six (polygons-near-exactly site t b m e ids);
     items-at = λ p. not-six (items-at-exactly site t p);
     polygon-at = λ p. not-six (polygon-at-exactly site t p);
-    cast-ray = λ o d len. not-six (cast-ray-exactly site t o d len);
+    cast-ray = λ o d len mode. not-six (cast-ray-exactly site t o d len mode);
   }

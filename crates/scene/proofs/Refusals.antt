@@ -134,9 +134,10 @@ module _ (site : Site) (t : Tables) where
   polygon-at-exactly p = tests foundStatus found.Refused (λ n. refl) site t (pointInDomain p) _ (found-zero _)
 
   -- a ray
-  pub cast-ray-exactly : (o d : Vec2) (len : Float) → Exactly (check 6 (Sound site t) (check 1 (rayInDomain o d len ≡ true) passed)) (lookStatus (castRayOf site t o d len))
+  pub cast-ray-exactly
+      : (o d : Vec2) (len : Float) (mode : ℕ) → Exactly (check 6 (Sound site t) (check 1 (rayInDomain o d len mode ≡ true) passed)) (lookStatus (castRayOf site t o d len mode))
   unfolding castRayOf
-  cast-ray-exactly o d len = tests lookStatus look.Refused (λ n. refl) site t (rayInDomain o d len) _ refl
+  cast-ray-exactly o d len mode = tests lookStatus look.Refused (λ n. refl) site t (rayInDomain o d len mode) _ refl
 
   -- ---- THE CALLS THAT WRITE. 7: "fewer stamps than polygons"
   pub new-stamps-exactly : (m : List ℕ) (e : ℕ) → Exactly (check 6 (Sound site t) (check 7 (site .polygons ≤ length m) passed)) (stampsStatus (newStampsOf site t m e .answer))

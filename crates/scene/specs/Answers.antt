@@ -22,6 +22,7 @@ use Rattle.sight.specs.declared.Whose.the-variants as whose
 use Rattle.sight.specs.declared.Sighting.{Sighting}
 use Rattle.sight.specs.Holding as holding
 use Rattle.sight.specs.Casting as casting
+use Rattle.sight.specs.Tested.{Tested, castTested}
 use Rattle.scene.specs.Asked.{asked, rayInDomain}
 use Rattle.scene.specs.declared.Extent.{Extent}
 use Rattle.scene.specs.declared.Extent.the-variants as extents
@@ -100,15 +101,20 @@ polygonAtOf site t p =
     asked found.Refused site t (pointInDomain p)
     (foundFrom (holding.polygonAtOf (site .grid) (t .points) (t .boxes) (t .polygons) (t .starts) (t .items) (loadPointOf p)))
 
--- ---- a ray
+-- ---- a ray, in a mode: 0 the Rust's rule, 1 the lowest edge of those tested at exactly the distance answered (document 02, Q-3)
 abbrev pub lookFrom : Sighting → Look
 lookFrom s = look.Seen (s .hit) (s .cells)
 
-unfoldable pub castRayOf : Site → Tables → Vec2 → Vec2 → Float → Look
-castRayOf site t o d len =
-    asked look.Refused site t (rayInDomain o d len)
-    (lookFrom (casting.castRayOf (site .grid) (t .points) (t .boxes) (t .polygons) (t .starts) (t .items) (loadPointOf o) (loadPointOf d) (loadOf len)))
+unfoldable pub castRayOf : Site → Tables → Vec2 → Vec2 → Float → ℕ → Look
+castRayOf site t o d len mode =
+    asked look.Refused site t (rayInDomain o d len mode)
+    (lookFrom (casting.castRayOf (site .grid) (t .points) (t .boxes) (t .polygons) (t .starts) (t .items) (loadPointOf o) (loadPointOf d) (loadOf len) mode))
 
 -- the cells that it enters, in order, where it is not refused
-abbrev pub seenCells : Site → Tables → Vec2 → Vec2 → Float → List ℕ
-seenCells site t o d len = casting.castCells (site .grid) (t .points) (t .boxes) (t .polygons) (t .starts) (t .items) (loadPointOf o) (loadPointOf d) (loadOf len)
+abbrev pub seenCells : Site → Tables → Vec2 → Vec2 → Float → ℕ → List ℕ
+seenCells site t o d len mode =
+    casting.castCells (site .grid) (t .points) (t .boxes) (t .polygons) (t .starts) (t .items) (loadPointOf o) (loadPointOf d) (loadOf len) mode
+
+-- and the edges that it tests, in order
+abbrev pub seenTested : Site → Tables → Vec2 → Vec2 → Float → ℕ → List Tested
+seenTested site t o d len mode = castTested (site .grid) (t .points) (t .boxes) (t .polygons) (t .starts) (t .items) (loadPointOf o) (loadPointOf d) (loadOf len) mode

@@ -1,6 +1,7 @@
 -- The tests that every question makes first, and their order. Document 01, "Refusal numbers": "6, 1, 7, 8 for questions". Definitions only.
 use Prim.Native.Nat.{ℕ}
 use mathlib.Core.Bool.{Bool, not, _&&_, cond}
+use lib.Dec.{leb}
 use lib.Ieee.{Float, isNan}
 use Rattle.geom.specs.declared.Vec2.{Vec2}
 use Rattle.site.specs.declared.Site.{Site}
@@ -20,6 +21,7 @@ firstFailed one a two b = cond one (cond two 0 b) a
 unfoldable pub admitOf : Site → Tables → Bool → ℕ
 admitOf site t inside = asked (λ n. n) site t inside 0
 
--- "Domain": origins from -1,000,000 to 1,000,000; "ray direction components finite, -1,000,000 to 1,000,000; ray length not NaN"
-unfoldable pub rayInDomain : Vec2 → Vec2 → Float → Bool
-rayInDomain o d len = pointInDomain o && pointInDomain d && not (isNan len)
+-- "Domain": origins from -1,000,000 to 1,000,000; "ray direction components finite, -1,000,000 to 1,000,000; ray length not NaN". Document 02, Q-3: "a mode other than
+-- 0 or 1 is refused as 1"
+unfoldable pub rayInDomain : Vec2 → Vec2 → Float → ℕ → Bool
+rayInDomain o d len mode = pointInDomain o && pointInDomain d && not (isNan len) && leb mode 1

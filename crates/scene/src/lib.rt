@@ -559,15 +559,16 @@ pub fn polygon_at(
 
 // ---- a ray
 
-// Are the ray's numbers in the domain? The origin and the direction's components are coordinates; the length is anything but NaN.
-fn ray_in_domain(o: Vec2, d: Vec2, length: f64) -> bool
-    ensures { λ r. ⌜ r ≡ rayInDomain o d length ⌝ }
+// Are the ray's numbers in the domain? The origin and the direction's components are coordinates; the length is anything but NaN; the mode is 0 or 1.
+fn ray_in_domain(o: Vec2, d: Vec2, length: f64, mode: u32) -> bool
+    ensures { λ r. ⌜ r ≡ rayInDomain o d length mode ⌝ }
 {
-    site::point_in_domain(o) & site::point_in_domain(d) & !num::is_nan(length)
+    site::point_in_domain(o) & site::point_in_domain(d) & !num::is_nan(length) & (mode <= 1)
 }
 
 // The nearest edge that the ray `o + t * d`, t up to `length`, hits, found by walking the grid's cells along the ray, nearest first. `d` is to be a unit
-// vector, so that t is a distance.
+// vector, so that t is a distance. Where several edges that it tests are hit at exactly the distance answered, mode 0 answers the one tested first, as the Rust does,
+// and mode 1 the lowest.
 pub fn cast_ray(
     site: Site,
     points: &[f64],
@@ -579,8 +580,9 @@ pub fn cast_ray(
     o: Vec2,
     d: Vec2,
     length: f64,
+    mode: u32,
 ) -> Look
-    ensures { λ r. ⌜ r ≡ castRayOf site (tables (now (points .entry)) (now (boxes .entry)) (now (polygons .entry)) (now (owners .entry)) (now (starts .entry)) (now (items .entry))) o d length ⌝ }
+    ensures { λ r. ⌜ r ≡ castRayOf site (tables (now (points .entry)) (now (boxes .entry)) (now (polygons .entry)) (now (owners .entry)) (now (starts .entry)) (now (items .entry))) o d length mode ⌝ }
 {
     let n = admit(
         site,
@@ -590,7 +592,7 @@ pub fn cast_ray(
         owners,
         starts,
         items,
-        ray_in_domain(o, d, length),
+        ray_in_domain(o, d, length, mode),
     );
     if n != 0 {
         return Look::Refused(n);
@@ -606,6 +608,7 @@ pub fn cast_ray(
         site::load_point(o),
         site::load_point(d),
         site::load(length),
+        mode,
     );
     let hit = s.hit;
     Look::Seen {

@@ -1,11 +1,12 @@
--- A hit names an edge of a polygon that the walk met: where the edges of every polygon in the grid's cells have numbers below n, so has the hit. On sound tables n is
+-- A hit names an edge of a polygon that the walk met: where the edges of every polygon in the grid's cells have numbers below n, so has the hit, in every mode. On sound tables n is
 -- the number of points (crate `scene`, proofs/Seen.antt), so that no hit has the largest number, by which the Rust tells a miss. Assumes nothing.
 use Prim.Native.Nat.{ℕ, zero, suc, _+_, _*_, _≤_, _<_}
 use mathlib.Core.Path.{_≡_, refl}
 use mathlib.Core.Bool.{Bool, true, false, cond}
 use mathlib.Core.List.{List, [], _∷_, foldl}
 use native.Mathlib.Omega.{arith}
-use lib.Ieee.{Float, lt}
+use lib.Dec.{eqb, ltb}
+use lib.Ieee.{Float, lt, eq}
 use Rattle.lists.specs.Members.{All, holds}
 use Rattle.geom.specs.declared.Vec2.{Vec2}
 use Rattle.geom.specs.declared.Reach.{Reach}
@@ -31,7 +32,7 @@ use Rattle.walk.proofs.StepLaws.{moves}
 use Rattle.walk.proofs.StartLaws.{start-in}
 use Rattle.walk.proofs.EnteredOnce.{inside}
 use Rattle.sight.specs.Slabs.{rayHitsAabbOf}
-use Rattle.sight.specs.Casting.{rayOf, edgeNumber, nearerOf, edgesUpTo, edgesMet, pushed, itemSeen, itemsSeen, looker, lookFirst, sightingOf, castRayOf}
+use Rattle.sight.specs.Casting.{rayOf, edgeNumber, lowerOf, nearerOf, edgesUpTo, edgesMet, pushed, itemSeen, itemsSeen, looker, lookFirst, sightingOf, castRayOf}
 use Rattle.sight.specs.declared.Ray.{Ray}
 use Rattle.sight.specs.declared.Best.{Best}
 use Rattle.sight.specs.declared.Recent.{Recent}
@@ -66,14 +67,25 @@ module _ {S : Type 0} (v : Visitor S) (k : Course) (P : S → Type 0) (keeps : (
   kept p s g h = kept-in (left k p) p s g h
 
 -- ---- one edge, one polygon, one cell
-module _ (n : ℕ) where
-  nearer-by : (b : Best) (t : Float) (e : ℕ) (c : Bool) → e < n → Below n (b .hit) → Below n (cond c (record { t = t; hit = Hit t e }) b .hit)
-  nearer-by b t e true h g = h
-  nearer-by b t e false h g = g
+module _ (n mode : ℕ) where
+  lower-below : (c : Cast) (b : Best) (e : ℕ) → e < n → Below n (b .hit) → Below n (lowerOf c e b .hit)
+  lower-below Miss b e h g = g
+  lower-below (Hit t f) b e h g = by (ltb e f)
+    where
+      by : (x : Bool) → Below n (cond x (record { t = b .t; hit = Hit t e }) b .hit)
+      by true = h
+      by false = g
 
-  nearer-below : (b : Best) (m : Reach) (e : ℕ) → e < n → Below n (b .hit) → Below n (nearerOf b m e .hit)
+  nearer-by : (b : Best) (t : Float) (e : ℕ) (p q z : Bool) → e < n → Below n (b .hit)
+      → Below n (cond p (record { t = t; hit = Hit t e }) (cond q (cond z b (lowerOf (b .hit) e b)) b) .hit)
+  nearer-by b t e true q z h g = h
+  nearer-by b t e false false z h g = g
+  nearer-by b t e false true true h g = g
+  nearer-by b t e false true false h g = lower-below (b .hit) b e h g
+
+  nearer-below : (b : Best) (m : Reach) (e : ℕ) → e < n → Below n (b .hit) → Below n (nearerOf mode b m e .hit)
   unfolding nearerOf
-  nearer-below b (reach.Hit t) e h g = nearer-by b t e (lt t (b .t)) h g
+  nearer-below b (reach.Hit t) e h g = nearer-by b t e (lt t (b .t)) (eq t (b .t)) (eqb mode 0) h g
   nearer-below b reach.Miss e h g = g
 
   before-in : (m i : ℕ) → i < m → cornerBefore m i < m
@@ -84,11 +96,11 @@ module _ (n : ℕ) where
   unfolding edgeNumber
   number-below first m i f h = omega arith
 
-  edges-below : (ray : Ray) (ring : List Float) (first : ℕ) (b : Best) (k : ℕ) → first + corners ring ≤ n → k ≤ corners ring → Below n (b .hit) → Below n (edgesUpTo ray ring first b k .hit)
+  edges-below : (ray : Ray) (ring : List Float) (first : ℕ) (b : Best) (k : ℕ) → first + corners ring ≤ n → k ≤ corners ring → Below n (b .hit) → Below n (edgesUpTo (nearerOf mode) ray ring first b k .hit)
   unfolding edgesUpTo
   edges-below ray ring first b zero f h g = g
   edges-below ray ring first b (suc i) f h g =
-      nearer-below (edgesUpTo ray ring first b i) _ (edgeNumber first (cornerBefore (corners ring) i))
+      nearer-below (edgesUpTo (nearerOf mode) ray ring first b i) _ (edgeNumber first (cornerBefore (corners ring) i))
       (number-below first (corners ring) (cornerBefore (corners ring) i) f (before-in (corners ring) i h)) (edges-below ray ring first b i f (omega arith) g)
 
   module _ (ray : Ray) (points boxes : List Float) (polygons : List ℕ) where
@@ -98,33 +110,33 @@ module _ (n : ℕ) where
     item-by s r e false true h g = g
     item-by s r e false false h g = h
 
-    item-below : (s : Look) (id : ℕ) → Numbered n points polygons id → Below n (s .best .hit) → Below n (itemSeen ray points boxes polygons s id .best .hit)
+    item-below : (s : Look) (id : ℕ) → Numbered n points polygons id → Below n (s .best .hit) → Below n (itemSeen (nearerOf mode) ray points boxes polygons s id .best .hit)
     unfolding itemSeen edgesMet
     item-below s id f h =
-        item-by s (pushed (s .recent) id) (edgesMet ray (vertsOf points polygons id) (firstOf polygons id) (s .best)) (holds id (s .recent .ids))
+        item-by s (pushed (s .recent) id) (edgesMet (nearerOf mode) ray (vertsOf points polygons id) (firstOf polygons id) (s .best)) (holds id (s .recent .ids))
         (rayHitsAabbOf (ray .o) (ray .inv) (boxAt boxes id) (s .best .t)) h
         (edges-below ray (vertsOf points polygons id) (firstOf polygons id) (s .best) (corners (vertsOf points polygons id)) f (omega arith) h)
 
-    items-by : (ids : List ℕ) (s : Look) → All (Numbered n points polygons) ids → Below n (s .best .hit) → Below n (foldl (itemSeen ray points boxes polygons) s ids .best .hit)
+    items-by : (ids : List ℕ) (s : Look) → All (Numbered n points polygons) ids → Below n (s .best .hit) → Below n (foldl (itemSeen (nearerOf mode) ray points boxes polygons) s ids .best .hit)
     items-by [] s f h = h
-    items-by (x ∷ ids) s f h = items-by ids (itemSeen ray points boxes polygons s x) (f .1) (item-below s x (f .0) h)
+    items-by (x ∷ ids) s f h = items-by ids (itemSeen (nearerOf mode) ray points boxes polygons s x) (f .1) (item-below s x (f .0) h)
 
-    items-below : (ids : List ℕ) (s : Look) → All (Numbered n points polygons) ids → Below n (s .best .hit) → Below n (itemsSeen ray points boxes polygons s ids .best .hit)
+    items-below : (ids : List ℕ) (s : Look) → All (Numbered n points polygons) ids → Below n (s .best .hit) → Below n (itemsSeen (nearerOf mode) ray points boxes polygons s ids .best .hit)
     unfolding itemsSeen
     items-below ids s f h = items-by ids s f h
 
 -- ---- the cast
-module _ (n : ℕ) (g : Grid) (points boxes : List Float) (polygons starts items : List ℕ) (o d : Vec2) (len : Float)
+module _ (n : ℕ) (g : Grid) (points boxes : List Float) (polygons starts items : List ℕ) (o d : Vec2) (len : Float) (mode : ℕ)
     (cells : (c : ℕ) → c < g .cols * g .rows → All (Numbered n points polygons) (cellOf starts items c)) where
-  from-below : (t : Start) → rayStart g o d len ≡ t → Below n (tourFrom (looker (rayOf o d) points boxes polygons starts items) t (lookFirst len) .final .best .hit)
+  from-below : (t : Start) → rayStart g o d len ≡ t → Below n (tourFrom (looker (nearerOf mode) (rayOf o d) points boxes polygons starts items) t (lookFirst len) .final .best .hit)
   from-below start.Miss e = tt
   from-below (start.From k p) e =
       let b = start-in g o d len k p e in
       let m : k .cols * k .rows ≡ g .cols * g .rows = rw (b .same-cols, b .same-rows) in
-      kept (looker (rayOf o d) points boxes polygons starts items) k (λ s. Below n (s .best .hit))
-      (λ q s h f. items-below n (rayOf o d) points boxes polygons (cellOf starts items (cellNumber k q)) s (cells (cellNumber k q) (rw (← m) (inside k q h))) f)
+      kept (looker (nearerOf mode) (rayOf o d) points boxes polygons starts items) k (λ s. Below n (s .best .hit))
+      (λ q s h f. items-below n mode (rayOf o d) points boxes polygons (cellOf starts items (cellNumber k q)) s (cells (cellNumber k q) (rw (← m) (inside k q h))) f)
       p (lookFirst len) (b .on-grid) tt
 
-  pub hit-below : Below n (castRayOf g points boxes polygons starts items o d len .hit)
+  pub hit-below : Below n (castRayOf g points boxes polygons starts items o d len mode .hit)
   unfolding castRayOf sightingOf rayTour
   hit-below = from-below (rayStart g o d len) refl

@@ -21,7 +21,7 @@ use Rattle.walk.specs.Steps.{cellNumber, exitOf, stepOf, left, OnGrid}
 use Rattle.walk.specs.Tours.{Visitor, endsAt, before, tour, rayTour}
 use Rattle.walk.proofs.StepLaws.{moves}
 use Rattle.walk.proofs.TourLaws.{tour-next, tour-end, tour-stop}
-use Rattle.sight.specs.Casting.{rayOf, recentNone, itemsSeen, looker, sightingOf, castRayOf}
+use Rattle.sight.specs.Casting.{Rule, rayOf, nearerOf, recentNone, itemsSeen, looker, sightingOf, castRayOf}
 use Rattle.sight.specs.declared.Look.{Look}
 use Rattle.sight.specs.declared.Recent.{Recent}
 use Rattle.sight.specs.declared.Sighting.{Sighting}
@@ -62,33 +62,33 @@ module _ (v : Visitor Look) (k : Course) (p₀ p : Place) (s₀ s s' : Look) (n 
   ends e = last (rw is (tour-end v k p s e))
 
 -- ---- one turn of the loop, by what its calls answer: the cell's number, its ids, the state after them and the cell's exit
-module _ (ray : Ray) (points boxes : List Float) (polygons starts items : List ℕ) (k : Course) (p₀ p : Place) (s₀ s s' : Look) (n c : ℕ) (ids : List ℕ)
-    (l : Left (looker ray points boxes polygons starts items) k p₀ p s₀ s n) (is-cell : c ≡ cellNumber k p) (is-part : ids ≡ cellOf starts items c)
-    (is-state : s' ≡ itemsSeen ray points boxes polygons s ids) where
-  sees : s' ≡ itemsSeen ray points boxes polygons s (cellOf starts items (cellNumber k p))
+module _ (rule : Rule) (ray : Ray) (points boxes : List Float) (polygons starts items : List ℕ) (k : Course) (p₀ p : Place) (s₀ s s' : Look) (n c : ℕ) (ids : List ℕ)
+    (l : Left (looker rule ray points boxes polygons starts items) k p₀ p s₀ s n) (is-cell : c ≡ cellNumber k p) (is-part : ids ≡ cellOf starts items c)
+    (is-state : s' ≡ itemsSeen rule ray points boxes polygons s ids) where
+  sees : s' ≡ itemsSeen rule ray points boxes polygons s (cellOf starts items (cellNumber k p))
   sees = rw (← is-cell, ← is-part) is-state
 
   module _ (exit : Float) (is-exit : exit ≡ exitOf k p) where
-    pub turn-next : (q : Place) → not (lt exit (s' .best .t)) ≡ false → stepOf k p ≡ Next q → Left (looker ray points boxes polygons starts items) k p₀ q s₀ s' (n + 1)
-    turn-next q g e = goes-on (looker ray points boxes polygons starts items) k p₀ p s₀ s s' n l sees q (rw (← is-exit) (not-false _ g)) e
+    pub turn-next : (q : Place) → not (lt exit (s' .best .t)) ≡ false → stepOf k p ≡ Next q → Left (looker rule ray points boxes polygons starts items) k p₀ q s₀ s' (n + 1)
+    turn-next q g e = goes-on (looker rule ray points boxes polygons starts items) k p₀ p s₀ s s' n l sees q (rw (← is-exit) (not-false _ g)) e
 
     pub turn-stop
         : not (lt exit (s' .best .t)) ≡ true
-        → record { hit = s' .best .hit; cells = n + 1 } ≡ sightingOf (tour (looker ray points boxes polygons starts items) k p₀ s₀)
-    turn-stop g = stops (looker ray points boxes polygons starts items) k p₀ p s₀ s s' n l sees (rw (← is-exit) (not-true _ g))
+        → record { hit = s' .best .hit; cells = n + 1 } ≡ sightingOf (tour (looker rule ray points boxes polygons starts items) k p₀ s₀)
+    turn-stop g = stops (looker rule ray points boxes polygons starts items) k p₀ p s₀ s s' n l sees (rw (← is-exit) (not-true _ g))
 
-  pub turn-end : stepOf k p ≡ Stop → record { hit = s' .best .hit; cells = n + 1 } ≡ sightingOf (tour (looker ray points boxes polygons starts items) k p₀ s₀)
-  turn-end e = ends (looker ray points boxes polygons starts items) k p₀ p s₀ s s' n l sees e
+  pub turn-end : stepOf k p ≡ Stop → record { hit = s' .best .hit; cells = n + 1 } ≡ sightingOf (tour (looker rule ray points boxes polygons starts items) k p₀ s₀)
+  turn-end e = ends (looker rule ray points boxes polygons starts items) k p₀ p s₀ s s' n l sees e
 
 -- ---- the whole cast
-module _ (g : Grid) (points boxes : List Float) (polygons starts items : List ℕ) (o d : Vec2) (len : Float) where
+module _ (g : Grid) (points boxes : List Float) (polygons starts items : List ℕ) (o d : Vec2) (len : Float) (mode : ℕ) where
   pub cast-from
       : (k : Course) (p : Place) (r : Recent) (a : Sighting) → rayStart g o d len ≡ start.From k p → r ≡ recentNone
-      → a ≡ sightingOf (tour (looker (rayOf o d) points boxes polygons starts items) k p (record { best = record { t = len; hit = Miss }; recent = r }))
-      → a ≡ castRayOf g points boxes polygons starts items o d len
+      → a ≡ sightingOf (tour (looker (nearerOf mode) (rayOf o d) points boxes polygons starts items) k p (record { best = record { t = len; hit = Miss }; recent = r }))
+      → a ≡ castRayOf g points boxes polygons starts items o d len mode
   unfolding castRayOf rayTour
   cast-from k p r a e f h = rw (e, ← f) h
 
-  pub cast-miss : rayStart g o d len ≡ start.Miss → record { hit = Miss; cells = 0 } ≡ castRayOf g points boxes polygons starts items o d len
+  pub cast-miss : rayStart g o d len ≡ start.Miss → record { hit = Miss; cells = 0 } ≡ castRayOf g points boxes polygons starts items o d len mode
   unfolding castRayOf rayTour sightingOf
   cast-miss e = rw e

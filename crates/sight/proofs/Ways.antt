@@ -1,5 +1,5 @@
 -- The ways through the functions of `sight` that have branches, over plain values: tests and callees' answers are hypotheses. Assumes nothing.
-use mathlib.Core.Path.{_≡_, refl, ap, _∙_}
+use mathlib.Core.Path.{_≡_, ap, _∙_}
 use mathlib.Core.Bool.{Bool, true, false, _||_, or-false, or-assoc}
 use mathlib.Core.List.{List}
 use Prim.Native.Nat.{ℕ, _+_, _≤_, _<_}
@@ -7,7 +7,8 @@ use native.Mathlib.Numerals.{add-one}
 use native.Mathlib.Omega.{arith}
 use lib.ListN.{length, getD, drop, drop-of-length-le}
 use lib.Dec.{eqb, ltb}
-use lib.Ieee.{Float, lt}
+use lib.Ieee.{Float, lt, eq}
+use borrow.Author.Tests.{eq-eqb, ne-eqb, lt-ltb, le-ltb}
 use Rattle.lists.specs.Lists.{filter}
 use Rattle.lists.specs.Members.{holds}
 use Rattle.lists.proofs.Parts.{drop-here}
@@ -25,7 +26,7 @@ use Rattle.site.specs.declared.Cast.the-variants.{Hit, Miss}
 use Rattle.site.specs.Tables.{firstOf, vertsOf}
 use Rattle.sight.specs.Slabs.{rayHitsAabbOf}
 use Rattle.sight.specs.Holding.{holdsPoint, higherOf, highest, polygonAtOf}
-use Rattle.sight.specs.Casting.{edgeNumber, nearerOf, edgesUpTo, edgesMet, pushed, itemSeen}
+use Rattle.sight.specs.Casting.{Rule, edgeNumber, levelOf, nearerOf, edgesUpTo, edgesMet, pushed, itemSeen}
 use Rattle.sight.specs.declared.Whose.{Whose}
 use Rattle.sight.specs.declared.Whose.the-variants.{Id, Nobody}
 use Rattle.sight.specs.declared.Ray.{Ray}
@@ -64,31 +65,50 @@ module _ (w : Whose) (id : ℕ) where
   unfolding higherOf
   is-first e = rw e
 
+-- ---- `level`
+module _ (mode : ℕ) (b : Best) (e : ℕ) where
+  pub level-rust : mode ≡ 0 → b ≡ levelOf mode b e
+  level-rust z = rw (eq-eqb mode 0 z)
+
+  module _ (z : mode ≡ 0 → ⊥) where
+    pub level-lower : (t : Float) (f : ℕ) → b .hit ≡ Hit t f → e < f → record { t = b .t; hit = Hit t e } ≡ levelOf mode b e
+    level-lower t f is l = rw (ne-eqb mode 0 z, is, lt-ltb e f l)
+
+    pub level-not : (t : Float) (f : ℕ) → b .hit ≡ Hit t f → f ≤ e → b ≡ levelOf mode b e
+    level-not t f is l = rw (ne-eqb mode 0 z, is, le-ltb e f l)
+
+    pub level-miss : b .hit ≡ Miss → b ≡ levelOf mode b e
+    level-miss is = rw (ne-eqb mode 0 z, is)
+
 -- ---- `nearer`
-module _ (b : Best) (m : Reach) (e : ℕ) where
-  pub nearer-hit : (t : Float) (n : ℕ) → m ≡ reach.Hit t → lt t (b .t) ≡ true → n ≡ e → record { t = t; hit = Hit t n } ≡ nearerOf b m e
+module _ (mode : ℕ) (b : Best) (m : Reach) (e : ℕ) where
+  pub nearer-hit : (t : Float) (n : ℕ) → m ≡ reach.Hit t → lt t (b .t) ≡ true → n ≡ e → record { t = t; hit = Hit t n } ≡ nearerOf mode b m e
   unfolding nearerOf
   nearer-hit t n is h en = rw (is, h, en)
 
-  pub nearer-far : (t : Float) → m ≡ reach.Hit t → lt t (b .t) ≡ false → b ≡ nearerOf b m e
+  pub nearer-level : (t : Float) {n : ℕ} {r : Best} → m ≡ reach.Hit t → lt t (b .t) ≡ false → eq t (b .t) ≡ true → n ≡ e → r ≡ levelOf mode b n → r ≡ nearerOf mode b m e
   unfolding nearerOf
-  nearer-far t is h = rw (is, h)
+  nearer-level t is h q en er = rw (is, h, q, ← en) er
 
-  pub nearer-miss : m ≡ reach.Miss → b ≡ nearerOf b m e
+  pub nearer-far : (t : Float) → m ≡ reach.Hit t → lt t (b .t) ≡ false → eq t (b .t) ≡ false → b ≡ nearerOf mode b m e
+  unfolding nearerOf
+  nearer-far t is h q = rw (is, h, q)
+
+  pub nearer-miss : m ≡ reach.Miss → b ≡ nearerOf mode b m e
   unfolding nearerOf
   nearer-miss is = rw is
 
 -- ---- `test_edges`
-pub no-edges : (ray : Ray) (ring : List Float) (first : ℕ) (b : Best) → corners ring ≡ 0 → b ≡ edgesMet ray ring first b
+pub no-edges : (rule : Rule) (ray : Ray) (ring : List Float) (first : ℕ) (b : Best) → corners ring ≡ 0 → b ≡ edgesMet rule ray ring first b
 unfolding edgesMet edgesUpTo
-no-edges ray ring first b e = rw e
+no-edges rule ray ring first b e = rw e
 
 pub next-edge
-    : (ray : Ray) (ring : List Float) (first : ℕ) (b₀ b b' : Best) (prev k : ℕ) (a c : Vec2) (m : Reach)
-    → b ≡ edgesUpTo ray ring first b₀ k → prev ≡ cornerBefore (corners ring) k → a ≡ cornerOf ring prev → c ≡ cornerOf ring k
-    → m ≡ raySegmentOf (ray .o) (ray .d) a c → b' ≡ nearerOf b m (edgeNumber first prev) → b' ≡ edgesUpTo ray ring first b₀ (k + 1)
+    : (rule : Rule) (ray : Ray) (ring : List Float) (first : ℕ) (b₀ b b' : Best) (prev k : ℕ) (a c : Vec2) (m : Reach)
+    → b ≡ edgesUpTo rule ray ring first b₀ k → prev ≡ cornerBefore (corners ring) k → a ≡ cornerOf ring prev → c ≡ cornerOf ring k
+    → m ≡ raySegmentOf (ray .o) (ray .d) a c → b' ≡ rule b m (edgeNumber first prev) → b' ≡ edgesUpTo rule ray ring first b₀ (k + 1)
 unfolding edgesUpTo
-next-edge ray ring first b₀ b b' prev k a c m eb ep ea ec em e = rw add-one (e ∙ rw (em, eb, ea, ec, ep))
+next-edge rule ray ring first b₀ b b' prev k a c m eb ep ea ec em e = rw add-one (e ∙ rw (em, eb, ea, ec, ep))
 
 -- ---- `Recent::has`: the eight places one after the other
 holds-step : (x : ℕ) (l : List ℕ) (i : ℕ) → i < length l → holds x (drop i l) ≡ (eqb x (getD l i 0) || holds x (drop (i + 1) l))
@@ -116,21 +136,21 @@ holds-eight x l h =
     (simp (or-assoc, or-false))
 
 -- ---- `test_item`
-module _ (ray : Ray) (points boxes : List Float) (polygons : List ℕ) (s : Look) (id : ℕ) (lately : Bool) (is-lately : lately ≡ holds id (s .recent .ids)) where
-  pub item-lately : lately ≡ true → s ≡ itemSeen ray points boxes polygons s id
+module _ (rule : Rule) (ray : Ray) (points boxes : List Float) (polygons : List ℕ) (s : Look) (id : ℕ) (lately : Bool) (is-lately : lately ≡ holds id (s .recent .ids)) where
+  pub item-lately : lately ≡ true → s ≡ itemSeen rule ray points boxes polygons s id
   unfolding itemSeen
   item-lately e = let k : holds id (s .recent .ids) ≡ true = cc in rw k
 
   module _ (new : lately ≡ false) (r : Recent) (is-pushed : r ≡ pushed (s .recent) id) (b : Aabb) (t : Bool) (is-box : b ≡ boxAt boxes id) (is-test : t ≡ rayHitsAabbOf (ray .o) (ray .inv) b (s .best .t)) where
-    pub item-passed : t ≡ false → record { best = s .best; recent = r } ≡ itemSeen ray points boxes polygons s id
+    pub item-passed : t ≡ false → record { best = s .best; recent = r } ≡ itemSeen rule ray points boxes polygons s id
     unfolding itemSeen
     item-passed e =
         let k : holds id (s .recent .ids) ≡ false = cc in
         let h : rayHitsAabbOf (ray .o) (ray .inv) (boxAt boxes id) (s .best .t) ≡ false = cc in
         rw (k, h, is-pushed)
 
-    pub item-tested : t ≡ true → (v : List Float) (f : ℕ) (n : Best) → v ≡ vertsOf points polygons id → f ≡ firstOf polygons id → n ≡ edgesMet ray v f (s .best)
-        → record { best = n; recent = r } ≡ itemSeen ray points boxes polygons s id
+    pub item-tested : t ≡ true → (v : List Float) (f : ℕ) (n : Best) → v ≡ vertsOf points polygons id → f ≡ firstOf polygons id → n ≡ edgesMet rule ray v f (s .best)
+        → record { best = n; recent = r } ≡ itemSeen rule ray points boxes polygons s id
     unfolding itemSeen
     item-tested e v f n ev ef en =
         let k : holds id (s .recent .ids) ≡ false = cc in

@@ -2,3 +2,5 @@
 pub mod Slabs
 pub mod Holding
 pub mod Casting
+pub mod Rust
+pub mod Tested

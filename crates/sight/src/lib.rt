@@ -1,6 +1,7 @@
 // What a point and a ray meet on a site: the Rust's `polygon_at`, `cast_ray` and `ray_hits_aabb` (`scene.rs`, lines 292 to 363), over lent tables.
 // Nothing here tests the tables: the entry points are in crate `scene`. Each public function takes whatever it is lent: a read past a table's end gives the default.
 // Meanings: specs/Slabs.antt (the box test), specs/Holding.antt (`polygon_at`), specs/Casting.antt (`cast_ray`).
+// The mode of a ray is document 02's, Q-3: 0 the Rust's rule, any other the lowest edge of those that are tested and met at exactly the same distance.
 use geom::Aabb;
 use geom::Reach;
 use geom::Vec2;
@@ -18,7 +19,7 @@ ghost use Rattle.walk.specs.Steps.{OnGrid};
 ghost use Rattle.walk.specs.Tours.{tour};
 ghost use Rattle.sight.specs.Slabs.{rayHitsAabbOf};
 ghost use Rattle.sight.specs.Holding.{holdsPoint, higherOf, withId, highest, polygonAtOf};
-ghost use Rattle.sight.specs.Casting.{rayOf, edgeNumber, nearerOf, edgesMet, recentNone, pushed, itemSeen, itemsSeen, looker, lookFirst, sightingOf, castRayOf};
+ghost use Rattle.sight.specs.Casting.{rayOf, edgeNumber, levelOf, nearerOf, edgesMet, recentNone, pushed, itemSeen, itemsSeen, looker, lookFirst, sightingOf, castRayOf};
 
 // ---- the box test
 
@@ -158,9 +159,33 @@ fn edge_number(first: u32, i: usize) -> u32
     4294967295
 }
 
-// The nearest hit after one edge more, which starts at the point i of a polygon.
-fn nearer(best: Best, met: Reach, first: u32, i: usize) -> Best
-    ensures { λ r. ⌜ r ≡ nearerOf best met (edgeNumber first i) ⌝ }
+// The edge e is met at exactly the distance of the nearest hit: in mode 0 the edge found first stays, in any other the lower number, once there is a hit.
+fn level(best: Best, e: u32, mode: u32) -> Best
+    ensures { λ r. ⌜ r ≡ levelOf mode best e ⌝ }
+{
+    if mode == 0 {
+        return best;
+    }
+    let hit = best.hit;
+    match hit {
+        Cast::Hit(t, f) => {
+            if e < f {
+                return Best {
+                    t: best.t,
+                    hit: Cast::Hit(t, e),
+                };
+            }
+            return best;
+        }
+        Cast::Miss => {
+            return best;
+        }
+    }
+}
+
+// The nearest hit after one edge more, which starts at the point i of a polygon. The mode is looked at only where two distances are equal.
+fn nearer(best: Best, met: Reach, first: u32, i: usize, mode: u32) -> Best
+    ensures { λ r. ⌜ r ≡ nearerOf mode best met (edgeNumber first i) ⌝ }
 {
     match met {
         Reach::Hit(t) => {
@@ -169,6 +194,9 @@ fn nearer(best: Best, met: Reach, first: u32, i: usize) -> Best
                     t,
                     hit: Cast::Hit(t, edge_number(first, i)),
                 };
+            }
+            if t == best.t {
+                return level(best, edge_number(first, i), mode);
             }
             return best;
         }
@@ -179,8 +207,8 @@ fn nearer(best: Best, met: Reach, first: u32, i: usize) -> Best
 }
 
 // The edges of a polygon, the closing edge first. `prev` is the point where the edge starts that ends at the point k.
-fn test_edges(ray: Ray, ring: &[f64], first: u32, start: Best) -> Best
-    ensures { λ r. ⌜ r ≡ edgesMet ray (now (ring .entry)) first start ⌝ }
+fn test_edges(ray: Ray, ring: &[f64], first: u32, start: Best, mode: u32) -> Best
+    ensures { λ r. ⌜ r ≡ edgesMet (nearerOf mode) ray (now (ring .entry)) first start ⌝ }
 {
     let n = ring.len() / 2;
     let mut best = start;
@@ -192,7 +220,13 @@ fn test_edges(ray: Ray, ring: &[f64], first: u32, start: Best) -> Best
     let mut k: usize = 0;
     while k < n {
         let b = geom::corner(ring, k);
-        best = nearer(best, geom::ray_segment(ray.o, ray.d, a, b), first, prev);
+        best = nearer(
+            best,
+            geom::ray_segment(ray.o, ray.d, a, b),
+            first,
+            prev,
+            mode,
+        );
         prev = k;
         a = b;
         k += 1;
@@ -238,8 +272,16 @@ impl Recent {
 }
 
 // One polygon of a cell: passed over if it was tested lately. The mailbox is filled before the box is tested.
-fn test_item(ray: Ray, points: &[f64], boxes: &[f64], polygons: &[u32], s: Look, id: u32) -> Look
-    ensures { λ r. ⌜ r ≡ itemSeen ray (now (points .entry)) (now (boxes .entry)) (now (polygons .entry)) s id ⌝ }
+fn test_item(
+    ray: Ray,
+    points: &[f64],
+    boxes: &[f64],
+    polygons: &[u32],
+    s: Look,
+    id: u32,
+    mode: u32,
+) -> Look
+    ensures { λ r. ⌜ r ≡ itemSeen (nearerOf mode) ray (now (points .entry)) (now (boxes .entry)) (now (polygons .entry)) s id ⌝ }
 {
     let recent = s.recent;
     if recent.has(id) {
@@ -258,6 +300,7 @@ fn test_item(ray: Ray, points: &[f64], boxes: &[f64], polygons: &[u32], s: Look,
         site::verts_of(points, polygons, id),
         site::first_of(polygons, id),
         best,
+        mode,
     );
     Look {
         best: nearest,
@@ -273,19 +316,21 @@ fn test_items(
     polygons: &[u32],
     ids: &[u32],
     start: Look,
+    mode: u32,
 ) -> Look
-    ensures { λ r. ⌜ r ≡ itemsSeen ray (now (points .entry)) (now (boxes .entry)) (now (polygons .entry)) start (now (ids .entry)) ⌝ }
+    ensures { λ r. ⌜ r ≡ itemsSeen (nearerOf mode) ray (now (points .entry)) (now (boxes .entry)) (now (polygons .entry)) start (now (ids .entry)) ⌝ }
 {
     let mut s = start;
     let mut i: usize = 0;
     while i < ids.len() {
-        s = test_item(ray, points, boxes, polygons, s, ids[i]);
+        s = test_item(ray, points, boxes, polygons, s, ids[i], mode);
         i += 1;
     }
     s
 }
 
-// The walk from the place `start` on: nearest cells first, until the nearest hit lies in the walked part.
+// The walk from the place `start` on: nearest cells first, until the nearest hit lies in the walked part. The hit is copied out only where it is answered: a copy for
+// each cell costs time.
 fn look_along(
     ray: Ray,
     points: &[f64],
@@ -296,20 +341,21 @@ fn look_along(
     k: Course,
     start: Place,
     first: Look,
+    mode: u32,
 ) -> Sighting
     requires { ⌜ OnGrid k start ⌝ }
-    ensures { λ r. ⌜ r ≡ sightingOf (tour (looker ray (now (points .entry)) (now (boxes .entry)) (now (polygons .entry)) (now (starts .entry)) (now (items .entry))) k start first) ⌝ }
+    ensures { λ r. ⌜ r ≡ sightingOf (tour (looker (nearerOf mode) ray (now (points .entry)) (now (boxes .entry)) (now (polygons .entry)) (now (starts .entry)) (now (items .entry))) k start first) ⌝ }
 {
     let mut s = first;
     let mut p = start;
     let mut cells: usize = 0;
     loop {
         let ids = grid::cell_items(starts, items, walk::cell_of(k, p));
-        s = test_items(ray, points, boxes, polygons, ids, s);
+        s = test_items(ray, points, boxes, polygons, ids, s, mode);
         cells += 1;
-        let best = s.best;
-        let hit = best.hit;
-        if !(best.t > walk::exit_of(k, p)) {
+        if !(s.best.t > walk::exit_of(k, p)) {
+            let best = s.best;
+            let hit = best.hit;
             return Sighting { hit, cells };
         }
         let step = walk::advance(k, p);
@@ -318,13 +364,15 @@ fn look_along(
                 p = q;
             }
             Step::Stop => {
+                let best = s.best;
+                let hit = best.hit;
                 return Sighting { hit, cells };
             }
         }
     }
 }
 
-// The nearest edge that the ray `o + t * d`, t up to `length`, hits, found by walking the cells along the ray.
+// The nearest edge that the ray `o + t * d`, t up to `length`, hits, found by walking the cells along the ray. Of several at that distance the mode decides.
 pub fn cast_ray(
     g: Grid,
     points: &[f64],
@@ -335,8 +383,9 @@ pub fn cast_ray(
     o: Vec2,
     d: Vec2,
     length: f64,
+    mode: u32,
 ) -> Sighting
-    ensures { λ r. ⌜ r ≡ castRayOf g (now (points .entry)) (now (boxes .entry)) (now (polygons .entry)) (now (starts .entry)) (now (items .entry)) o d length ⌝ }
+    ensures { λ r. ⌜ r ≡ castRayOf g (now (points .entry)) (now (boxes .entry)) (now (polygons .entry)) (now (starts .entry)) (now (items .entry)) o d length mode ⌝ }
 {
     let ray = Ray {
         o,
@@ -357,7 +406,18 @@ pub fn cast_ray(
     let s = walk::traverse_ray(g, o, d, length);
     match s {
         Start::From(k, p) => {
-            return look_along(ray, points, boxes, polygons, starts, items, k, p, first);
+            return look_along(
+                ray,
+                points,
+                boxes,
+                polygons,
+                starts,
+                items,
+                k,
+                p,
+                first,
+                mode,
+            );
         }
         Start::Miss => {
             return Sighting {

@@ -1,5 +1,6 @@
 -- Laws of `site`.
 pub mod Accessing
+pub mod Distances
 pub mod Falling
 pub mod Ways
 pub mod SoundLaws

@@ -3,3 +3,4 @@ pub mod Tables
 pub mod Domain
 pub mod Soundness
 pub mod Checks
+pub mod Meets

@@ -34,7 +34,12 @@ use Rattle.stages.specs.Held.{Standing, Casted}
 use Rattle.stages.proofs.Gathers.{fit-kept}
 use Rattle.stages.proofs.Sampling.{samples-are}
 
-module _ (k : Rooms) (v : View) (edges events : ℕ) (f : List Float) (w : List ℕ) (S : Standing k edges events f w) where
+-- the mode does not count for the buckets
+few-buckets : (mode n : ℕ) (total : Float) → headOf mode n total .buckets ≡ headOf 0 n total .buckets
+unfolding headOf
+few-buckets mode n total = refl
+
+module _ (mode : ℕ) (k : Rooms) (v : View) (edges events : ℕ) (f : List Float) (w : List ℕ) (S : Standing k edges events f w) where
   pub ready : Ready k f w edges
   ready = record { fit = S .fit; held = S .edges-fit }
 
@@ -44,22 +49,22 @@ module _ (k : Rooms) (v : View) (edges events : ℕ) (f : List Float) (w : List 
   sp : List Spot
   sp = spotsIn k f w events
 
-  module _ (b : Indexed) (total : Float) (w1 : List ℕ) (ht : total ≡ v .fov) (B₀ : Builds k f w edges total b w1) where
-    B : Builds k f w edges (v .fov) b w1
+  module _ (b : Indexed) (total : Float) (w1 : List ℕ) (ht : total ≡ v .fov) (B₀ : Builds mode k f w edges total b w1) where
+    B : Builds mode k f w edges (v .fov) b w1
     B = rw ht at B₀
 
     index-over : b .over ≡ indexOver k v (edgesIn k f w edges)
     index-over =
         B .over
         ∙ ap (λ (x : AngularIndex). overOf k (x .buckets) (b .refs)) (B .head)
-        ∙ ap (λ (n : ℕ). overOf k (headOf n (v .fov) .buckets) (b .refs)) (sym (length-listed (edgeAt k f w) edges))
-        ∙ ap (overOf k (headOf (length (edgesIn k f w edges)) (v .fov) .buckets)) (B .refs)
+        ∙ ap (λ (m : ℕ). overOf k m (b .refs)) (few-buckets mode edges (v .fov)) ∙ ap (λ (n : ℕ). overOf k (headOf 0 n (v .fov) .buckets) (b .refs)) (sym (length-listed (edgeAt k f w) edges))
+        ∙ ap (overOf k (headOf 0 (length (edgesIn k f w edges)) (v .fov) .buckets)) (B .refs)
 
     over-is : b .over ≡ true → true ≡ raysOver k v (edgesIn k f w edges) (spotsIn k f w events)
     unfolding raysOver
     over-is h = rw (sym index-over ∙ h)
 
-    pub build-over : (x : AngularIndex) (n : ℕ) → b .over ≡ true → Casted k v (edgesIn k f w edges) (spotsIn k f w events) (record { index = x; samples = n; over = true }) f w1
+    pub build-over : (x : AngularIndex) (n : ℕ) → b .over ≡ true → Casted mode k v (edgesIn k f w edges) (spotsIn k f w events) (record { index = x; samples = n; over = true }) f w1
     build-over x n h = record {
       over = over-is h;
       samples = λ e. absurd (true≢false e);
@@ -83,7 +88,7 @@ module _ (k : Rooms) (v : View) (edges events : ℕ) (f : List Float) (w : List 
     ends-1 = ends-kept k f f w w1 events (S .events-fit) (S .ends) refl between-kept
 
     module _ (h : b .over ≡ false) (x : AngularIndex) (hx : x ≡ b .index) (n : ℕ) (hn : n ≡ events) where
-      stands : indexIn k f w1 x ≡ indexOf (v .fov) (edgesIn k f w edges)
+      stands : indexIn k f w1 x ≡ indexOf mode (v .fov) (edgesIn k f w edges)
       stands = ap (indexIn k f w1) hx ∙ B .stands h
 
       sound : Within k w1 x
@@ -119,12 +124,12 @@ module _ (k : Rooms) (v : View) (edges events : ℕ) (f : List Float) (w : List 
         few-events : length (spotsIn k f w events) ≡ events
         few-events = length-listed (spotAt k f w) events
 
-        pub cast-done : Casted k v (edgesIn k f w edges) (spotsIn k f w events) (record { index = x; samples = r .samples; over = r .over }) f2 w2
+        pub cast-done : Casted mode k v (edgesIn k f w edges) (spotsIn k f w events) (record { index = x; samples = r .samples; over = r .over }) f2 w2
         cast-done = record {
           over = ray-over;
           samples = λ _. many;
           few = λ e. ltb-false (k .samples) (r .samples) (sym (R .over) ∙ e);
-          rays = λ e. R .rays e ∙ ap (λ (i : Index). raysCast v i (samplesOf v (turnAt k f w1) events)) stands ∙ ap (raysCast v (indexOf (v .fov) (edgesIn k f w edges))) samples-is;
+          rays = λ e. R .rays e ∙ ap (λ (i : Index). raysCast v i (samplesOf v (turnAt k f w1) events)) stands ∙ ap (raysCast v (indexOf mode (v .fov) (edgesIn k f w edges))) samples-is;
           below = λ e. R .below e;
           dirs = λ e. R .dirs e;
           index = λ e. index-behind k f f2 w1 w2 x sound (R .floats) (R .words) (omega arith) (omega arith) ∙ stands;

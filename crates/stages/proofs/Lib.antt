@@ -1,4 +1,4 @@
--- The laws under the functions of `stages`, and its theorems: Counts and Demand.
+-- The laws under the functions of `stages`, and its theorems: Counts, Demand and Rusts.
 mod Corners
 mod Sampling
 pub mod Gathers
@@ -7,3 +7,4 @@ mod Running
 pub mod Showing
 pub mod Counts
 pub mod Demand
+pub mod Rusts

@@ -196,8 +196,8 @@ events-none q candidates edges events f w e o i S =
     (rw (length-listed (edgeAt (q .k) f w) edges) S)
 
 module _ (q : Request) (candidates edges events : ℕ) (f : List Float) (w : List ℕ) (S : Standing (q .k) edges events f w) (ne : events ≡ 0 → ⊥) (v : View) (hv : v ≡ viewIn q)
-    (c : Casting) (f1 : List Float) (w1 : List ℕ) (C₀ : Casted (q .k) v (edgesIn (q .k) f w edges) (spotsIn (q .k) f w events) c f1 w1) (o : List Float) (i : List ℕ) where
-  C : Casted (q .k) (viewIn q) (edgesIn (q .k) f w edges) (spotsIn (q .k) f w events) c f1 w1
+    (c : Casting) (f1 : List Float) (w1 : List ℕ) (C₀ : Casted (q .mode) (q .k) v (edgesIn (q .k) f w edges) (spotsIn (q .k) f w events) c f1 w1) (o : List Float) (i : List ℕ) where
+  C : Casted (q .mode) (q .k) (viewIn q) (edgesIn (q .k) f w edges) (spotsIn (q .k) f w events) c f1 w1
   C = rw hv at C₀
 
   some : 0 < length (spotsIn (q .k) f w events)
@@ -212,7 +212,7 @@ module _ (q : Request) (candidates edges events : ℕ) (f : List Float) (w : Lis
     run-same =
         ap (λ (z : Float). runIn (q .k) (c .index) f1 w1 v z (q .points) (q .polygons) (q .owners) (c .samples) (q .numbers)) hs
         ∙ ap (λ (z : View). runIn (q .k) (c .index) f1 w1 z (arcStepOf (z .r) (q .tolerance)) (q .points) (q .polygons) (q .owners) (c .samples) (q .numbers)) hv
-        ∙ run-is (q .k) (q .cone) (q .tolerance) (edgesIn (q .k) f w edges) (spotsIn (q .k) f w events) c f1 w1 C h (omega (arith, long, S .fit .words-fit))
+        ∙ run-is (q .mode) (q .k) (q .cone) (q .tolerance) (edgesIn (q .k) f w edges) (spotsIn (q .k) f w events) c f1 w1 C h (omega (arith, long, S .fit .words-fit))
         (omega (arith, length-listed (spotAt (q .k) f w) events, S .events-fit)) (q .points) (q .polygons) (q .owners) (q .numbers) (q .ids)
 
     T : Traced (runOf q (edgesIn (q .k) f w edges) (spotsIn (q .k) f w events)) (q .ids) r o i

@@ -11,6 +11,7 @@ use Rattle.num.specs.Ops.{zeroF}
 use Rattle.lists.specs.Lists.{consIf}
 use Rattle.sorts.specs.Sort.{dedup}
 use Rattle.sorts.specs.Visible.{markedOf}
+use Rattle.site.specs.declared.Cast.{Cast}
 use Rattle.cone.specs.declared.ViewCone.{ViewCone}
 use Rattle.cone.specs.declared.View.{View}
 use Rattle.cone.specs.Cone.{isFullOf, viewOf, arcStepOf, outlineOf, numbersOf}
@@ -22,15 +23,16 @@ use Rattle.fan.specs.Fan.{Fanned, fanOf, isOver}
 use Rattle.room.specs.Constants.{noVertex}
 use Rattle.events.specs.Spots.{Spot, sidesOf, spotsOf, asideCount}
 use Rattle.index.specs.Spans.{headOf}
-use Rattle.index.specs.Angular.{indexOf, refsOf}
+use Rattle.index.specs.Angular.{Index, indexOf, refsOf}
 use Rattle.index.specs.Stands.{overOf}
+use Rattle.credit.specs.Credit.{noMarks}
 use Rattle.rays.specs.Samples.{Turn, samplesOf, hitOf, raysCast}
-use Rattle.refining.specs.Refine.{env, Run}
+use Rattle.refining.specs.Refine.{creditsFor, env, Run}
 use Rattle.sweep.specs.Sweep.{Course, beginOf, sweepOf}
 use Rattle.stages.specs.declared.Visibility.{Visibility}
 use Rattle.stages.specs.declared.Visibility.the-variants.{Seen, Refused}
 
--- what the stages go by: the stated entries, three of the tables, the loaded cone and tolerance, and how many numbers each output slice holds
+-- what the stages go by: the stated entries, three of the tables, the loaded cone and tolerance, the mode, and how many numbers each output slice holds
 pub record Request : Type 0 where
   pub k : Rooms
   pub points : List Float
@@ -38,12 +40,13 @@ pub record Request : Type 0 where
   pub owners : List ℕ
   pub cone : ViewCone
   pub tolerance : Float
+  pub mode : ℕ
   pub numbers : ℕ
   pub ids : ℕ
 
-abbrev pub request : Rooms → List Float → List ℕ → List ℕ → ViewCone → Float → ℕ → ℕ → Request
-request k points polygons owners c tolerance numbers ids =
-    record { k = k; points = points; polygons = polygons; owners = owners; cone = c; tolerance = tolerance; numbers = numbers; ids = ids }
+abbrev pub request : Rooms → List Float → List ℕ → List ℕ → ViewCone → Float → ℕ → ℕ → ℕ → Request
+request k points polygons owners c tolerance mode numbers ids =
+    record { k = k; points = points; polygons = polygons; owners = owners; cone = c; tolerance = tolerance; mode = mode; numbers = numbers; ids = ids }
 
 abbrev pub viewIn : Request → View
 viewIn q = viewOf (q .cone)
@@ -101,9 +104,9 @@ turnsOf spots i = record { angle = getD spots i noSpot .angle; side = getD spots
 abbrev pub samplesFor : View → List Spot → List Sample
 samplesFor v spots = samplesOf v (turnsOf spots) (length spots)
 
--- in order of angle, each with its answer
-abbrev pub raysFor : View → List LocalEdge → List Spot → List Sample
-raysFor v edges spots = raysCast v (indexOf (v .fov) edges) (samplesFor v spots)
+-- in order of angle, each with its answer in a mode
+abbrev pub raysFor : ℕ → View → List LocalEdge → List Spot → List Sample
+raysFor mode v edges spots = raysCast v (indexOf mode (v .fov) edges) (samplesFor v spots)
 
 -- ---- the sweep
 -- the corners of an event: its own, unless it has none, and those kept aside, without repeats
@@ -113,22 +116,25 @@ spotCorners s = consIf (not (eqb (s .vertex) noVertex)) (s .vertex) (dedup (s .e
 abbrev pub cornersAt : List Spot → ℕ → List ℕ
 cornersAt spots i = spotCorners (getD spots i noSpot)
 
--- what it goes by
-abbrev pub courseOf : Request → List LocalEdge → List Spot → Course
-courseOf q edges spots = record {
-  env = env (hitOf (viewIn q) (indexOf (viewIn q .fov) edges)) (viewIn q) (q .points) (q .polygons) (q .owners) (q .k .owners);
+-- the index of its casts
+abbrev pub indexFor : Request → List LocalEdge → Index
+indexFor q edges = indexOf (q .mode) (viewIn q .fov) edges
+
+-- what it goes by: a cast for each angle, the credits of each hit, and the rest of the request
+abbrev pub courseBy : (Float → Cast) → (Float → ℕ → List ℕ) → Request → List Spot → Course
+courseBy cast credits q spots = record {
+  env = env cast credits (viewIn q) (q .points) (q .polygons) (q .owners) (q .k .owners);
   step = arcStepOf (viewIn q .r) (q .tolerance);
   seen = q .k .seen;
   corners = cornersAt spots;
 }
 
--- no polygon is marked: document 01 allows 4,096 of them
-unfoldable pub noMarks : List ℕ
-noMarks = replicate 4096 0
+abbrev pub courseOf : Request → List LocalEdge → List Spot → Course
+courseOf q edges spots = courseBy (hitOf (viewIn q) (indexFor q edges)) (creditsFor (viewIn q) (indexFor q edges) (q .owners)) q spots
 
 -- its run, from an outline of zeros
 unfoldable pub runOf : Request → List LocalEdge → List Spot → Run
-runOf q edges spots = sweepOf (courseOf q edges spots) (raysFor (viewIn q) edges spots) (beginOf (viewIn q) (replicate (q .numbers) zeroF) noMarks)
+runOf q edges spots = sweepOf (courseOf q edges spots) (raysFor (q .mode) (viewIn q) edges spots) (beginOf (viewIn q) (replicate (q .numbers) zeroF) noMarks)
 
 -- what the run comes to. The visible ids are the marked polygons, rising
 unfoldable pub sweptOf : Request → ℕ → List LocalEdge → List Spot → Run → Drawing
@@ -154,7 +160,7 @@ sweptOf q candidates edges spots run =
 -- ---- one after another
 -- the bucket starts or the references pass their entries
 abbrev pub indexOver : Rooms → View → List LocalEdge → Bool
-indexOver k v edges = overOf k (headOf (length edges) (v .fov) .buckets) (refsOf (v .fov) edges)
+indexOver k v edges = overOf k (headOf 0 (length edges) (v .fov) .buckets) (refsOf (v .fov) edges)
 
 -- they do, or the samples do
 unfoldable pub raysOver : Rooms → View → List LocalEdge → List Spot → Bool

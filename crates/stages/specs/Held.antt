@@ -27,7 +27,8 @@ use Rattle.sweep.specs.Sweep.{courseIn, sampleIn, beginOf, sweepOf}
 use Rattle.stages.specs.declared.Gathering.{Gathering}
 use Rattle.stages.specs.declared.Casting.{Casting}
 use Rattle.stages.specs.declared.Tracing.{Tracing}
-use Rattle.stages.specs.Drawing.{spotsFor, eventsOver, samplesFor, raysFor, raysOver, noMarks}
+use Rattle.credit.specs.Credit.{noMarks}
+use Rattle.stages.specs.Drawing.{spotsFor, eventsOver, samplesFor, raysFor, raysOver}
 
 -- ---- the front edges and the merged events
 abbrev pub gathering : ℕ → ℕ → ℕ → Bool → Bool → Gathering
@@ -54,14 +55,14 @@ pub record Gathered (k : Rooms) (v : View) (g : Fanned) (r : Gathering) (f : Lis
   pub stand : r .over ≡ false → r .touch ≡ false → Standing k (r .edges) (r .events) f w
 
 -- ---- the index and the rays with their directions, from f and w to f' and w': over, or they stand in the room, and the merged events still do
-pub record Casted (k : Rooms) (v : View) (edges : List LocalEdge) (spots : List Spot) (r : Casting) (f : List Float) (w : List ℕ) : Type 0 where
+pub record Casted (mode : ℕ) (k : Rooms) (v : View) (edges : List LocalEdge) (spots : List Spot) (r : Casting) (f : List Float) (w : List ℕ) : Type 0 where
   pub over : r .over ≡ raysOver k v edges spots
   pub samples : r .over ≡ false → r .samples ≡ length (samplesFor v spots)
   pub few : r .over ≡ false → r .samples ≤ k .samples
-  pub rays : r .over ≡ false → raysIn k f w (r .samples) ≡ raysFor v edges spots
+  pub rays : r .over ≡ false → raysIn k f w (r .samples) ≡ raysFor mode v edges spots
   pub below : r .over ≡ false → (t : ℕ) → t < r .samples → getD w (orderW k + t) 0 < k .samples
   pub dirs : r .over ≡ false → Directed k (v .start) f w (r .samples)
-  pub index : r .over ≡ false → indexIn k f w (r .index) ≡ indexOf (v .fov) edges
+  pub index : r .over ≡ false → indexIn k f w (r .index) ≡ indexOf mode (v .fov) edges
   pub within : r .over ≡ false → Within k w (r .index)
   pub spots-stay : r .over ≡ false → spotsIn k f w (length spots) ≡ spots
   pub ends : r .over ≡ false → EndsBelow k f w (length spots)

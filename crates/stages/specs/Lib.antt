@@ -2,3 +2,4 @@
 pub mod Drawing
 pub mod Shows
 pub mod Held
+pub mod Rust

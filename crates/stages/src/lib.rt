@@ -134,11 +134,12 @@ fn cast_rays(
     events: usize,
     floats: &mut [f64],
     words: &mut [u32],
+    mode: u32,
 ) -> Casting
     requires { ⌜ Standing k edges events (now floats) (now words) ⌝ }
-    ensures { λ r. ⌜ Casted k view (edgesIn k (now (floats .entry)) (now (words .entry)) edges) (spotsIn k (now (floats .entry)) (now (words .entry)) events) r (now (floats .exit)) (now (words .exit)) ⌝ }
+    ensures { λ r. ⌜ Casted mode k view (edgesIn k (now (floats .entry)) (now (words .entry)) edges) (spotsIn k (now (floats .entry)) (now (words .entry)) events) r (now (floats .exit)) (now (words .exit)) ⌝ }
 {
-    let b = index::build(k, edges, view.fov, &*floats, &mut *words);
+    let b = index::build(mode, k, edges, view.fov, &*floats, &mut *words);
     let x = b.index;
     if b.over {
         return Casting {
@@ -250,16 +251,17 @@ fn sweep_events(
     words: &mut [u32],
     outline: &mut [f64],
     visible: &mut [u32],
+    mode: u32,
 ) -> Visibility
     requires { ⌜ Standing k edges events (now floats) (now words) ⌝ }
-    ensures { λ r. ⌜ Shows (spotted (request k (now (points .entry)) (now (polygons .entry)) (now (owners .entry)) cone tolerance (length (now (outline .entry))) (length (now (visible .entry))))
+    ensures { λ r. ⌜ Shows (spotted (request k (now (points .entry)) (now (polygons .entry)) (now (owners .entry)) cone tolerance mode (length (now (outline .entry))) (length (now (visible .entry))))
         candidates (edgesIn k (now (floats .entry)) (now (words .entry)) edges) (spotsIn k (now (floats .entry)) (now (words .entry)) events)) r (now (outline .exit)) (now (visible .exit)) ⌝ }
 {
     if events == 0 {
         return circle(cone, tolerance, candidates, edges, outline);
     }
     let view = cone::view_of(cone);
-    let c = cast_rays(k, view, edges, events, &mut *floats, &mut *words);
+    let c = cast_rays(k, view, edges, events, &mut *floats, &mut *words, mode);
     if c.over {
         return Visibility::Refused(8);
     }
@@ -326,9 +328,10 @@ pub fn staged(
     words: &mut [u32],
     outline: &mut [f64],
     visible: &mut [u32],
+    mode: u32,
 ) -> Visibility
     requires { ⌜ Ready k (now polygons) n (now floats) (now words) ⌝ }
-    ensures { λ r. ⌜ Shows (stagedOf (request k (now (points .entry)) (now (polygons .entry)) (now (owners .entry)) cone tolerance (length (now (outline .entry))) (length (now (visible .entry))))
+    ensures { λ r. ⌜ Shows (stagedOf (request k (now (points .entry)) (now (polygons .entry)) (now (owners .entry)) cone tolerance mode (length (now (outline .entry))) (length (now (visible .entry))))
         (now (boxes .entry)) (take n (now (words .entry)))) r (now (outline .exit)) (now (visible .exit)) ⌝ }
 {
     let view = cone::view_of(cone);
@@ -362,5 +365,6 @@ pub fn staged(
         words,
         outline,
         visible,
+        mode,
     )
 }

@@ -19,14 +19,14 @@ use Rattle.outline.proofs.Ways.{place-over, push-by, own-over}
 use Rattle.refining.specs.declared.End.{End}
 use Rattle.refining.specs.declared.Turn.{Turn}
 use Rattle.refining.specs.declared.Turn.the-variants.{Stop, Open, Hidden}
-use Rattle.refining.specs.Refine.{Env, endOf, turnOf, Run, runAt, counting, pushing, owning, halve, refineOf}
+use Rattle.refining.specs.Refine.{pointOf, Env, endOf, turnOf, Run, runAt, counting, pushing, owning, halve, refineOf}
 use Rattle.seen.specs.Seen.{scene, seenOf, pushAll, passed, seeOf}
 use Rattle.sweep.specs.declared.Next.{Next}
 use Rattle.sweep.specs.declared.Next.the-variants.{To, Last}
 use Rattle.room.specs.Constants.{angleEps}
 use Rattle.sweep.specs.Sweep.{isPair, nextOf, emitOf, stepsOf, arcPoint, arcOf, gapOf, Course, betweenOf, visitOf, walkOf, sweepOf}
-use Rattle.sweep.specs.Recorder.{halveWith, refineWith, emitWith, arcWith, gapWith, betweenWith, visitWith, walkWith, sweepWith, bounded}
-use Rattle.sweep.proofs.Sim.{turns-any, sim-halve, sim-refine}
+use Rattle.sweep.specs.Recorder.{ownOne, ownsWith, halveWith, refineWith, emitWith, arcWith, gapWith, betweenWith, visitWith, walkWith, sweepWith, bounded}
+use Rattle.sweep.proofs.Sim.{any-half}
 
 -- ---- a run that is over stays as it is
 module _ (o : Vec2) (s : Run) (h : s .at .over ≡ true) where
@@ -40,7 +40,7 @@ module _ (o : Vec2) (s : Run) (h : s .at .over ≡ true) where
       ap (pushAll o points l) (sym (push-by (s .pts) (s .at) corner o (pointAt points c) (place-over (s .pts) (s .at) corner o (pointAt points c) h) refl))
       ∙ all-stays points l
 
-pub own-stays : (v : Env) (s : Run) → s .at .over ≡ true → (e : ℕ) → owning v e s ≡ s
+pub own-stays : (v : Env) (s : Run) → s .at .over ≡ true → (e : ℕ) → ownOne v e s ≡ s
 own-stays v s h e = ap (λ (q : Own). runAt (s .pts) (q .marks) (q .at)) (sym (own-over (v .room) (v .owners) e (s .marks) (s .at) h))
 
 passed-same : (t : Trace) → t .over ≡ true → passed t ≡ t
@@ -65,34 +65,30 @@ module _ (v : Env) (seen : ℕ) where
     cast-stays : (g : Float) → bounded v seen .cast g s ≡ s
     cast-stays g = rw h
 
-    hide-stays : (g : Float) (e : ℕ) → owning v e (bounded v seen .cast g s) ≡ s
-    hide-stays g e = ap (owning v e) (cast-stays g) ∙ own-stays v s h e
-
-    half-stays : (f : ℕ) (a b : End) (t : Turn) → halveWith (bounded v seen) (refineWith (bounded v seen) v f) (v .view) a b t s ≡ s
+    half-stays : (f : ℕ) (a b : End) (t : Turn) → halveWith (bounded v seen) (refineWith (bounded v seen) v f) v a b t s ≡ s
     half-stays f a b t =
-        sim-halve (bounded v seen) (bounded v seen) (λ (x y : Run). x ≡ s) (λ _ _. Unit {0}) (λ _. Unit {0}) (λ p tag x y e. to (pushing (v .view .o) p tag) e (push-stays (v .view .o) s h p tag))
-        (λ w _ x y e. to (owning v w) e (own-stays v s h w)) (λ g x y e. to (bounded v seen .cast g) e (cast-stays g))
-        (λ g w _ x y e. to (λ (z : Run). owning v w (bounded v seen .cast g z)) e (hide-stays g w)) (λ l x y e. to (bounded v seen .see l) e (see-stays l s h))
-        (refineWith (bounded v seen) v f) (refineWith (bounded v seen) v f)
-        (sim-refine (bounded v seen) (bounded v seen) (λ (x y : Run). x ≡ s) (λ _ _. Unit {0}) (λ _. Unit {0}) (λ p tag x y e. to (pushing (v .view .o) p tag) e (push-stays (v .view .o) s h p tag))
-        (λ w _ x y e. to (owning v w) e (own-stays v s h w)) (λ g x y e. to (bounded v seen .cast g) e (cast-stays g))
-        (λ g w _ x y e. to (λ (z : Run). owning v w (bounded v seen .cast g z)) e (hide-stays g w)) (λ l x y e. to (bounded v seen .see l) e (see-stays l s h)) v (λ a b. turns-any (turnOf v a b)) f)
-        (v .view) a b t (turns-any t) s s refl
+        any-half (bounded v seen) (bounded v seen) (λ (x y : Run). x ≡ s) (λ p tag x y e. to (pushing (v .view .o) p tag) e (push-stays (v .view .o) s h p tag)) (λ w x y e. to (ownOne v w) e (own-stays v s h w))
+        (λ g x y e. to (bounded v seen .cast g) e (cast-stays g)) (λ l x y e. to (bounded v seen .see l) e (see-stays l s h)) v f a b t s s refl
+
+  -- ---- the entries of a hit
+  owns-bounded : (l : List ℕ) (s : Run) → owning v l s ≡ ownsWith (bounded v seen) l s
+  owns-bounded [] s = refl
+  owns-bounded (e ∷ l) s = owns-bounded l (ownOne v e s)
 
   -- ---- refining
   cast-goes : (s : Run) → s .at .over ≡ false → cond (s .at .over) s (counting s) ≡ counting s
   cast-goes s h = ap (λ (x : Bool). cond x s (counting s)) h
 
   same-half : (f : ℕ) → ((a b : End) (s : Run) → refineOf v f a b s ≡ refineWith (bounded v seen) v f a b s) → (a b : End) (t : Turn) (s : Run) → s .at .over ≡ false
-      → halve (refineOf v f) v a b t s ≡ halveWith (bounded v seen) (refineWith (bounded v seen) v f) (v .view) a b t s
+      → halve (refineOf v f) v a b t s ≡ halveWith (bounded v seen) (refineWith (bounded v seen) v f) v a b t s
   same-half f ih a b Stop s h = refl
   same-half f ih a b (Open p) s h = ap (pushing (v .view .o) p corner) (sym (cast-goes s h))
   same-half f ih a b (Hidden p g e) s h =
-      ap (λ (x : Run). refineOf v f (endOf g e) b (pushing (v .view .o) p e x)) (ih a (endOf g e) (owning v e (counting s)))
-      ∙ ih (endOf g e) b (pushing (v .view .o) p e (refineWith (bounded v seen) v f a (endOf g e) (owning v e (counting s))))
-      ∙ ap
-      (λ (x : Run). refineWith (bounded v seen) v f (endOf g e) b (pushing (v .view .o) p e (refineWith (bounded v seen) v f a (endOf g e) (owning v e x))))
-      (sym (cast-goes s h))
+      let l = v .credits g e in
+      ap (λ (x : Run). refineOf v f (endOf g e) b (pushing (v .view .o) p e x)) (ih a (endOf g e) (owning v l (counting s)))
+      ∙ ih (endOf g e) b (pushing (v .view .o) p e (refineWith (bounded v seen) v f a (endOf g e) (owning v l (counting s))))
+      ∙ ap (λ (x : Run). refineWith (bounded v seen) v f (endOf g e) b (pushing (v .view .o) p e (refineWith (bounded v seen) v f a (endOf g e) x)))
+      (owns-bounded l (counting s) ∙ ap (ownsWith (bounded v seen) l) (sym (cast-goes s h)))
 
   refine-step : (f : ℕ) → ((a b : End) (s : Run) → refineOf v f a b s ≡ refineWith (bounded v seen) v f a b s) → (a b : End) (s : Run) (t : Bool) → s .at .over ≡ t
       → refineOf v (suc f) a b s ≡ refineWith (bounded v seen) v (suc f) a b s
@@ -108,9 +104,9 @@ module _ (v : Env) (seen : ℕ) where
   refine-bounded (suc f) a b s = refine-step f (refine-bounded f) a b s (s .at .over) refl
 
   -- ---- a sample, and what lies between two
-  emit-bounded : (a : Sample) (s : Run) (h : Cast) → a .hit ≡ h → emitOf (v .view) (v .room) (v .owners) a s ≡ emitWith (bounded v seen) h (v .view) (a .angle) s
+  emit-bounded : (a : Sample) (s : Run) (h : Cast) → a .hit ≡ h → emitOf (v .view) (v .room) (v .owners) (v .credits) a s ≡ emitWith (bounded v seen) h v (a .angle) s
   unfolding emitOf
-  emit-bounded a s (Hit t e) x = rw x
+  emit-bounded a s (Hit t e) x = rw x (ap (pushing (v .view .o) (pointOf (v .view) (a .angle) (Hit t e)) e) (owns-bounded (v .credits (a .angle) e) s))
   emit-bounded a s Miss x = rw x
 
   arc-bounded : (angle gap : Float) (steps i n : ℕ) (s : Run)
@@ -139,11 +135,11 @@ module _ (c : Course) where
       (gap-bounded (c .env) (c .seen) (c .step) a b s (a .hit) (b .hit) refl refl)
 
   visit-bounded : (a : Sample) (n : Next) (s : Run)
-      → visitOf c a n s ≡ visitWith (bounded (c .env) (c .seen)) c a n (emitWith (bounded (c .env) (c .seen)) (a .hit) (c .env .view) (a .angle) s)
+      → visitOf c a n s ≡ visitWith (bounded (c .env) (c .seen)) c a n (emitWith (bounded (c .env) (c .seen)) (a .hit) (c .env) (a .angle) s)
   unfolding visitOf
   visit-bounded a (To b) s =
       ap (betweenOf c a b) (emit-bounded (c .env) (c .seen) a s (a .hit) refl)
-      ∙ between-bounded a b (emitWith (bounded (c .env) (c .seen)) (a .hit) (c .env .view) (a .angle) s)
+      ∙ between-bounded a b (emitWith (bounded (c .env) (c .seen)) (a .hit) (c .env) (a .angle) s)
   visit-bounded a Last s = emit-bounded (c .env) (c .seen) a s (a .hit) refl
 
   walk-bounded : (first : Sample) (l : List Sample) (s : Run) → walkOf c first l s ≡ walkWith (bounded (c .env) (c .seen)) c first l s
@@ -151,7 +147,7 @@ module _ (c : Course) where
   walk-bounded first [] s = refl
   walk-bounded first (a ∷ l) s =
       ap (walkOf c first l) (visit-bounded a (nextOf (c .env .view .full) first l) s)
-      ∙ walk-bounded first l (visitWith (bounded (c .env) (c .seen)) c a (nextOf (c .env .view .full) first l) (emitWith (bounded (c .env) (c .seen)) (a .hit) (c .env .view) (a .angle) s))
+      ∙ walk-bounded first l (visitWith (bounded (c .env) (c .seen)) c a (nextOf (c .env .view .full) first l) (emitWith (bounded (c .env) (c .seen)) (a .hit) (c .env) (a .angle) s))
 
   -- the walk in lent lists is the walk over the recorder of lent lists
   pub sweep-bounded : (l : List Sample) (s : Run) → sweepOf c l s ≡ sweepWith (bounded (c .env) (c .seen)) c l s

@@ -19,11 +19,11 @@ use Rattle.cone.specs.declared.View.{View}
 use Rattle.outline.specs.declared.Trace.{Trace}
 use Rattle.outline.specs.Outline.{corner, none, trace, Out, out, Own, owned, ownOf}
 use Rattle.outline.proofs.Ways.{own-add, own-full, clash}
-use Rattle.refining.specs.Refine.{Env, turnOf, Run, runAt, counting, pushing, owning}
+use Rattle.refining.specs.Refine.{Env, Run, runAt, counting, pushing}
 use Rattle.seen.specs.Seen.{passed, pushAll}
 use Rattle.sweep.specs.Sweep.{Course, sweepOf, withPost, beginOf}
-use Rattle.sweep.specs.Recorder.{bounded, freeAll, Free, freeAt, free, freeBegin, asRust, passes}
-use Rattle.sweep.proofs.Sim.{turns-any, hits-any, sim-sweep}
+use Rattle.sweep.specs.Recorder.{ownOne, bounded, freeAll, Free, freeAt, free, freeBegin, asRust, passes}
+use Rattle.sweep.proofs.Sim.{any-sweep}
 use Rattle.sweep.proofs.Bounded.{push-stays, all-stays, own-stays, sweep-bounded}
 use Rattle.sweep.proofs.Pushed.{Grows, push-grows, Like, Pair, pair-other, push-pair, all-pair, all-grows}
 
@@ -101,7 +101,7 @@ module _ (v : Env) (l seen : ℕ) where
       like : Like l (outOf b) (outOf (f .run))
       like = h .pair .same k
 
-      own-at : (q : Own) → q ≡ ownOf (v .room) (v .owners) e (f .run .marks) s → runAt (b .pts) (q .marks) (q .at) ≡ owning v e b
+      own-at : (q : Own) → q ≡ ownOf (v .room) (v .owners) e (f .run .marks) s → runAt (b .pts) (q .marks) (q .at) ≡ ownOne v e b
       own-at q m =
           ap (λ (w : Own). runAt (b .pts) (w .marks) (w .at))
           (m
@@ -138,7 +138,7 @@ module _ (v : Env) (l seen : ℕ) where
             most = λ z. absurd (clash refl z);
           }
 
-      own-open : Beside l (v .room) seen (owning v e b) (freeAt (f .run .pts) marked one (f .most) (e ∷ f .entries) (f .rays))
+      own-open : Beside l (v .room) seen (ownOne v e b) (freeAt (f .run .pts) marked one (f .most) (e ∷ f .entries) (f .rays))
       own-open =
           ⊎-elim
           (λ m. subst (λ (q : Run). Beside l (v .room) seen q (freeAt (f .run .pts) marked one (f .most) (e ∷ f .entries) (f .rays))) (own-at (owned marked one) (own-add (v .room) (v .owners) e (f .run .marks) s (h .pair .going) m)) (own-room m))
@@ -146,9 +146,9 @@ module _ (v : Env) (l seen : ℕ) where
           (lt-or-le (s .owners) (v .room))
 
     own-beside : Beside l (v .room) seen (bounded v seen .own e b) (free v .own e f)
-    own-beside = subst (Beside l (v .room) seen (owning v e b)) free-own (by (b .at .over) refl)
+    own-beside = subst (Beside l (v .room) seen (ownOne v e b)) free-own (by (b .at .over) refl)
       where
-        by : (t : Bool) → b .at .over ≡ t → Beside l (v .room) seen (owning v e b) (freeAt (f .run .pts) marked one (f .most) (e ∷ f .entries) (f .rays))
+        by : (t : Bool) → b .at .over ≡ t → Beside l (v .room) seen (ownOne v e b) (freeAt (f .run .pts) marked one (f .most) (e ∷ f .entries) (f .rays))
         by true k = subst (λ (q : Run). Beside l (v .room) seen q (freeAt (f .run .pts) marked one (f .most) (e ∷ f .entries) (f .rays))) (sym (own-stays v b k e)) (own-shut k)
         by false k = own-open k
 
@@ -256,12 +256,11 @@ module _ (c : Course) (l : List Sample) (pts : List Float) (marks : List ℕ) wh
   pub beside : Beside (length pts) (c .env .room) (c .seen) inLent (asRust c l marks)
   beside =
       subst (λ (b : Run). Beside (length pts) (c .env .room) (c .seen) b (asRust c l marks)) (sym (sweep-bounded c l (beginOf (c .env .view) pts marks)))
-      (sim-sweep (bounded (c .env) (c .seen)) (free (c .env)) (Beside (length pts) (c .env .room) (c .seen)) (λ _ _. Unit {0}) (λ _. Unit {0}) (push-beside (c .env) (length pts) (c .seen)) (λ e _ b f h. own-beside (c .env) (length pts) (c .seen) e b f h)
-      (cast-beside (c .env) (length pts) (c .seen))
-      (λ g e _ b f h. own-beside (c .env) (length pts) (c .seen) e (bounded (c .env) (c .seen) .cast g b) (free (c .env) .cast g f) (cast-beside (c .env) (length pts) (c .seen) g b f h)) (see-beside (c .env) (length pts) (c .seen)) c (λ a b. turns-any (turnOf (c .env) a b)) l (λ a i. hits-any (a .hit)) (beginOf (c .env .view) pts marks) (freeBegin (c .env .view) marks)
+      (any-sweep (bounded (c .env) (c .seen)) (free (c .env)) (Beside (length pts) (c .env .room) (c .seen)) (push-beside (c .env) (length pts) (c .seen)) (own-beside (c .env) (length pts) (c .seen))
+      (cast-beside (c .env) (length pts) (c .seen)) (see-beside (c .env) (length pts) (c .seen)) c l (beginOf (c .env .view) pts marks) (freeBegin (c .env .view) marks)
       (begin-beside (c .env .view) (c .env .room) (c .seen) pts marks))
 
-  -- over exactly where a list of the Rust's run is longer than its entries
+  -- over exactly where a list of the growing run is longer than its entries
   pub exact : inLent .at .over ≡ passes (length pts) (c .env .room) (c .seen) (asRust c l marks)
   exact = by (inLent .at .over) refl
     where

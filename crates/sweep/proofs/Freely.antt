@@ -25,12 +25,12 @@ use Rattle.sweep.specs.declared.Next.the-variants.{To, Last}
 use Rattle.sweep.specs.Sweep.{isPair, nextOf, Course}
 use Rattle.sweep.specs.Recorder.{Recorder, halveWith, refineWith, emitWith, gapWith, betweenWith, visitWith, walkWith, sweepWith}
 
-module _ (cast : Float → Cast) (view : View) (points : List Float) (polygons owners : List ℕ) (room room' : ℕ) where
+module _ (cast : Float → Cast) (credits : Float → ℕ → List ℕ) (view : View) (points : List Float) (polygons owners : List ℕ) (room room' : ℕ) where
   abbrev one : Env
-  one = env cast view points polygons owners room
+  one = env cast credits view points polygons owners room
 
   abbrev two : Env
-  two = env cast view points polygons owners room'
+  two = env cast credits view points polygons owners room'
 
   turn-by : (m : Meeting) (a b : End) → turnBy m one a b ≡ turnBy m two a b
   turn-by (At p) a b = refl
@@ -41,7 +41,7 @@ module _ (cast : Float → Cast) (view : View) (points : List Float) (polygons o
   turn-same a b = turn-by (meetOf (edgeOf points polygons owners (a .edge)) (edgeOf points polygons owners (b .edge))) a b
 
   module _ {S : Type 0} (r : Recorder S) where
-    halve-same : (f g : End → End → S → S) → ((a b : End) (s : S) → f a b s ≡ g a b s) → (a b : End) (t : Turn) (s : S) → halveWith r f view a b t s ≡ halveWith r g view a b t s
+    halve-same : (f g : End → End → S → S) → ((a b : End) (s : S) → f a b s ≡ g a b s) → (a b : End) (t : Turn) (s : S) → halveWith r f one a b t s ≡ halveWith r g two a b t s
     halve-same f g h a b Stop s = refl
     halve-same f g h a b (Open p) s = refl
     halve-same f g h a b (Hidden p w e) s = h (endOf w e) b _ ∙ ap (λ (x : S). g (endOf w e) b (r .push p e x)) (h a (endOf w e) _)
@@ -50,8 +50,12 @@ module _ (cast : Float → Cast) (view : View) (points : List Float) (polygons o
     unfolding refineWith
     refine-same zero a b s = refl
     refine-same (suc n) a b s =
-        ap (λ (t : Turn). halveWith r (refineWith r one n) view a b t s) (turn-same a b)
+        ap (λ (t : Turn). halveWith r (refineWith r one n) one a b t s) (turn-same a b)
         ∙ halve-same (refineWith r one n) (refineWith r two n) (refine-same n) a b (turnOf two a b) s
+
+    emit-same : (c : Cast) (angle : Float) (s : S) → emitWith r c one angle s ≡ emitWith r c two angle s
+    emit-same (Hit t e) angle s = refl
+    emit-same Miss angle s = refl
 
     gap-same : (c d : Cast) (step from to : Float) (s : S) → gapWith r c d one step from to s ≡ gapWith r c d two step from to s
     gap-same Miss Miss step from to s = refl
@@ -80,7 +84,8 @@ module _ (cast : Float → Cast) (view : View) (points : List Float) (polygons o
       walk-same first [] s = refl
       walk-same first (a ∷ l) s =
           walk-same first l _
-          ∙ ap (walkWith r there first l) (visit-same a (nextOf (view .full) first l) (emitWith r (a .hit) view (a .angle) s))
+          ∙ ap (walkWith r there first l)
+          (visit-same a (nextOf (view .full) first l) (emitWith r (a .hit) one (a .angle) s) ∙ ap (visitWith r there a (nextOf (view .full) first l)) (emit-same (a .hit) (a .angle) s))
 
       pub sweep-same : (l : List Sample) (s : S) → sweepWith r here l s ≡ sweepWith r there l s
       unfolding sweepWith

@@ -26,14 +26,11 @@ use Rattle.room.specs.Layout.{edgesW, nearestW, mergedW, cornersW, startsW, sam
 use Rattle.room.specs.declared.Merged.{Merged}
 use Rattle.room.specs.Records.{mergedAt, sampleAt, dirAt, Directed}
 use Rattle.room.proofs.Kept.{merged-kept, sample-kept}
-use Rattle.cone.specs.declared.View.{View}
 use Rattle.index.specs.declared.AngularIndex.{AngularIndex}
-use Rattle.index.specs.Angular.{Index}
-use Rattle.index.specs.Casting.{castOf}
-use Rattle.index.specs.Stands.{Within}
+use Rattle.index.specs.Stands.{indexIn, Within}
 use Rattle.index.proofs.Kept.{index-kept}
 use Rattle.sorts.specs.Sort.{dedup}
-use Rattle.refining.specs.Refine.{castIn, Run}
+use Rattle.refining.specs.Refine.{Run}
 use Rattle.seen.specs.Seen.{cornerAt, firstCorner, cornersOf}
 use Rattle.sweep.specs.declared.Next.{Next}
 use Rattle.sweep.specs.declared.Next.the-variants.{To, Last}
@@ -46,12 +43,10 @@ module _ (k : Rooms) (words : List ℕ) where
   pub front-at : (i : ℕ) → i < seenW k → getD (part 0 (seenW k) words) i 0 ≡ getD words i 0
   front-at i h = part-getD 0 (seenW k) words (part 0 (seenW k) words) i 0 (front-part 0 (seenW k) (le-refl (seenW k))) (omega arith) h
 
-  -- the casts
-  pub cast-front : (floats : List Float) (x : AngularIndex) (view : View) → Within k words x → castIn k x floats (part 0 (seenW k) words) view ≡ castIn k x floats words view
-  unfolding castIn
-  cast-front floats x view sound =
-      ap (λ (i : Index). λ (angle : Float). castOf i (view .o) angle (fromAngleOf (view .start ⊕ angle)) (view .r))
-      (index-kept k floats floats words (part 0 (seenW k) words) x sound refl (front-part (edgesW k) (nearestW k) (omega arith)) (front-part (startsW k) (samplesW k) (omega arith)))
+  -- the index
+  pub index-front : (floats : List Float) (x : AngularIndex) → Within k words x → indexIn k floats (part 0 (seenW k) words) x ≡ indexIn k floats words x
+  index-front floats x sound =
+      index-kept k floats floats words (part 0 (seenW k) words) x sound refl (front-part (edgesW k) (nearestW k) (omega arith)) (front-part (startsW k) (samplesW k) (omega arith))
 
   -- the samples and their directions, where the order names samples of the room
   module _ (floats : List Float) (n : ℕ) (h : n ≤ k .samples) (below : (i : ℕ) → i < n → getD words (orderW k + i) 0 < k .samples) where

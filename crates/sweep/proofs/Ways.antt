@@ -22,8 +22,9 @@ use Rattle.cone.specs.declared.View.{View}
 use Rattle.cone.specs.Cone.{three}
 use Rattle.index.specs.declared.AngularIndex.{AngularIndex}
 use Rattle.outline.specs.declared.Trace.{Trace}
-use Rattle.outline.specs.Outline.{corner, none, Out, out, pushOf, Pushed, Own, owned, ownOf, Room, Grown}
-use Rattle.refining.specs.Refine.{alongOf, pointOf, castIn, Env, env, Run, runAt, endOf, refineOf, Ready, Done}
+use Rattle.outline.specs.Outline.{corner, none, Out, out, pushOf, Pushed, Own, owned, Room}
+use Rattle.credit.specs.Credit.{ownAll, Credited}
+use Rattle.refining.specs.Refine.{alongOf, pointOf, creditsIn, Env, envIn, Run, runAt, endOf, refineOf, Ready, Done}
 use Rattle.refining.proofs.Ways.{along-is}
 use Rattle.seen.specs.Seen.{scene, seeOf}
 use Rattle.seen.proofs.Pushes.{pushed-none, pushed-more}
@@ -60,9 +61,9 @@ next-last full at n i h f = rw (le-ltb (i + 1) n h, f)
 pub emit-point : (view : View) (a : Sample) {d p : Vec2} → d ≡ fromAngleOf (view .start ⊕ a .angle) → p ≡ alongOf view d (a .hit) → p ≡ pointOf view (a .angle) (a .hit)
 emit-point view a hd hp = hp ∙ ap (λ (q : Vec2). alongOf view q (a .hit)) hd ∙ along-is view (a .angle) (a .hit)
 
-module _ (view : View) (room : ℕ) (owners : List ℕ) (a : Sample) (pts : List Float) (marks : List ℕ) (s : Trace) {p : Vec2} (hp : p ≡ pointOf view (a .angle) (a .hit)) where
-  pub emit-hit : {t : Float} {e : ℕ} → a .hit ≡ Hit t e → {m2 : List ℕ} {s2 : Trace} → owned m2 s2 ≡ ownOf room owners e marks s
-      → {p3 : List Float} {s3 : Trace} → out p3 s3 ≡ pushOf (view .o) p e pts s2 → runAt p3 m2 s3 ≡ emitOf view room owners a (runAt pts marks s)
+module _ (view : View) (room : ℕ) (owners : List ℕ) (credits : Float → ℕ → List ℕ) (a : Sample) (pts : List Float) (marks : List ℕ) (s : Trace) {p : Vec2} (hp : p ≡ pointOf view (a .angle) (a .hit)) where
+  pub emit-hit : {t : Float} {e : ℕ} → a .hit ≡ Hit t e → {m2 : List ℕ} {s2 : Trace} → owned m2 s2 ≡ ownAll room owners (credits (a .angle) e) marks s
+      → {p3 : List Float} {s3 : Trace} → out p3 s3 ≡ pushOf (view .o) p e pts s2 → runAt p3 m2 s3 ≡ emitOf view room owners credits a (runAt pts marks s)
   unfolding emitOf
   emit-hit {t} {e} x {m2} {s2} h2 {p3} {s3} h3 =
       let q : p ≡ pointOf view (a .angle) (Hit t e) = hp ∙ ap (pointOf view (a .angle)) x in
@@ -72,7 +73,7 @@ module _ (view : View) (room : ℕ) (owners : List ℕ) (a : Sample) (pts : List
       (λ (w : Own). runAt (pushOf (view .o) (pointOf view (a .angle) (Hit t e)) e pts (w .at) .pts) (w .marks) (pushOf (view .o) (pointOf view (a .angle) (Hit t e)) e pts (w .at) .at))
       h2)
 
-  pub emit-miss : a .hit ≡ Miss → {p2 : List Float} {s2 : Trace} → out p2 s2 ≡ pushOf (view .o) p corner pts s → runAt p2 marks s2 ≡ emitOf view room owners a (runAt pts marks s)
+  pub emit-miss : a .hit ≡ Miss → {p2 : List Float} {s2 : Trace} → out p2 s2 ≡ pushOf (view .o) p corner pts s → runAt p2 marks s2 ≡ emitOf view room owners credits a (runAt pts marks s)
   unfolding emitOf
   emit-miss x {p2} {s2} h =
       let q : p ≡ pointOf view (a .angle) Miss = hp ∙ ap (pointOf view (a .angle)) x in
@@ -84,7 +85,7 @@ pushed-room h q = record { most = omega (arith, h .most, q .owners); within = λ
 pub emitted-miss : {l room : ℕ} {s r : Trace} → Room room s → Pushed l s r → Emitted l room s r
 emitted-miss h q = record { points = q .within; owners = pushed-room h q; up = omega (arith, q .owners); casts = q .refinements }
 
-pub emitted-hit : {l room : ℕ} {s t r : Trace} → Grown room s t → Pushed l t r → Emitted l room s r
+pub emitted-hit : {l room : ℕ} {s t r : Trace} → Credited room s t → Pushed l t r → Emitted l room s r
 emitted-hit g q = record { points = q .within; owners = pushed-room (g .entries) q; up = omega (arith, g .up, q .owners); casts = q .refinements ∙ g .refinements }
 
 -- ---- an arc
@@ -172,13 +173,17 @@ module _ (c : Course) (a b : Sample) (pts : List Float) (marks : List ℕ) (s : 
 
 -- what is read of the words in front of the last stretch, whose place is what a call answers
 pub gap-front : (k : Rooms) (x : AngularIndex) (floats : List Float) (words : List ℕ) (view : View) (points : List Float) (polygons owners : List ℕ) (step : Float) (a b : Sample) (s : Run) {w : ℕ} {r : Run}
-    → w ≡ seenW k → r ≡ gapOf (env (castIn k x floats (part 0 w words) view) view points polygons owners (k .owners)) step a b s
-    → r ≡ gapOf (env (castIn k x floats (part 0 (seenW k) words) view) view points polygons owners (k .owners)) step a b s
+    → w ≡ seenW k → r ≡ gapOf (envIn k x floats (part 0 w words) view points polygons owners) step a b s
+    → r ≡ gapOf (envIn k x floats (part 0 (seenW k) words) view points polygons owners) step a b s
 gap-front k x floats words view points polygons owners step a b s hw h =
-    h ∙ ap (λ (q : ℕ). gapOf (env (castIn k x floats (part 0 q words) view) view points polygons owners (k .owners)) step a b s) hw
+    h ∙ ap (λ (q : ℕ). gapOf (envIn k x floats (part 0 q words) view points polygons owners) step a b s) hw
 
 pub sample-front : (k : Rooms) (floats : List Float) (words : List ℕ) (i : ℕ) {w : ℕ} {s : Sample} → w ≡ seenW k → s ≡ sampleIn k floats (part 0 w words) i → s ≡ sampleIn k floats (part 0 (seenW k) words) i
 sample-front k floats words i hw h = h ∙ ap (λ (q : ℕ). sampleIn k floats (part 0 q words) i) hw
+
+pub emit-front : (k : Rooms) (x : AngularIndex) (floats : List Float) (words owners : List ℕ) (view : View) (a : Sample) (s : Run) {w : ℕ} {r : Run} → w ≡ seenW k
+    → r ≡ emitOf view (k .owners) owners (creditsIn k x floats (part 0 w words) owners view) a s → r ≡ emitOf view (k .owners) owners (creditsIn k x floats (part 0 (seenW k) words) owners view) a s
+emit-front k x floats words owners view a s hw h = h ∙ ap (λ (q : ℕ). emitOf view (k .owners) owners (creditsIn k x floats (part 0 q words) owners view) a s) hw
 
 -- the direction is the sample's
 pub dir-front : (k : Rooms) (start : Float) (floats : List Float) (words : List ℕ) (n i : ℕ) → Directed k start floats (part 0 (seenW k) words) n → i < n → {w : ℕ} {a : Sample} {d : Vec2} → w ≡ seenW k
@@ -192,9 +197,9 @@ pub next-front : (k : Rooms) (floats : List Float) (words : List ℕ) (full : Bo
 next-front k floats words full n i hw h = h ∙ ap (λ (q : ℕ). nextIn full (sampleIn k floats (part 0 q words)) n i) hw
 
 -- ---- `visit`
-module _ (c : Course) (a' : Sample) (n' : Next) (s : Run) {a : Sample} (ha : a ≡ a') {next : Next} (hn : next ≡ n') {t : Run} (ht : t ≡ emitOf (c .env .view) (c .env .room) (c .env .owners) a s) where
-  emitted : t ≡ emitOf (c .env .view) (c .env .room) (c .env .owners) a' s
-  emitted = ht ∙ ap (λ (q : Sample). emitOf (c .env .view) (c .env .room) (c .env .owners) q s) ha
+module _ (c : Course) (a' : Sample) (n' : Next) (s : Run) {a : Sample} (ha : a ≡ a') {next : Next} (hn : next ≡ n') {t : Run} (ht : t ≡ emitOf (c .env .view) (c .env .room) (c .env .owners) (c .env .credits) a s) where
+  emitted : t ≡ emitOf (c .env .view) (c .env .room) (c .env .owners) (c .env .credits) a' s
+  emitted = ht ∙ ap (λ (q : Sample). emitOf (c .env .view) (c .env .room) (c .env .owners) (c .env .credits) q s) ha
 
   pub visit-to : {b : Sample} → next ≡ To b → {r : Run} → r ≡ betweenOf c a b t → r ≡ visitOf c a' n' s
   unfolding visitOf

@@ -1,6 +1,7 @@
 -- The same walk over any recorder of what it finds: points, owners, casts of refining, and the corners seen at an event. Two recorders are of interest.
 -- `bounded` keeps them in lent lists and is over once a list has passed its entries: with it the walk is `sweepOf` (proofs/Exact.antt, `sweep-bounded`).
--- `free` keeps them as the Rust does (`visibility.rs`, lines 419 to 510), in lists that grow without end; beside them, the longest list of corners seen.
+-- `free` keeps them as the Rust does (`visibility.rs`, lines 419 to 510), in lists that grow without end; beside them, the longest list of corners seen. Each
+-- entry of the owners is a credit of the course, in mode 0 the edge answered as in the Rust.
 -- That the first is over exactly where the second passes the entries is `exact`, there: refusal 8 of document 01. Definitions only.
 use mathlib.Core.Bool.{Bool, cond, _||_}
 use mathlib.Core.List.{List, [], _∷_, _++_}
@@ -21,7 +22,7 @@ use Rattle.outline.specs.Outline.{corner, none, Out, out, pushOf, ownOf}
 use Rattle.refining.specs.declared.End.{End}
 use Rattle.refining.specs.declared.Turn.{Turn}
 use Rattle.refining.specs.declared.Turn.the-variants.{Stop, Open, Hidden}
-use Rattle.refining.specs.Refine.{pointOf, Env, crossingOf, endOf, turnOf, Run, runAt, counting, pushing, owning}
+use Rattle.refining.specs.Refine.{pointOf, Env, crossingOf, endOf, turnOf, Run, runAt, counting, pushing}
 use Rattle.seen.specs.Seen.{scene, seenOf, pushAll, passed}
 use Rattle.sweep.specs.declared.Next.{Next}
 use Rattle.sweep.specs.declared.Next.the-variants.{To, Last}
@@ -36,21 +37,26 @@ pub record Recorder (S : Type 0) : Type 0 where
   pub see : List ℕ → S → S
 
 module _ {S : Type 0} (r : Recorder S) where
+  -- ---- the entries of a hit, one after the other
+  abbrev pub ownsWith : List ℕ → S → S
+  ownsWith [] s = s
+  ownsWith (e ∷ l) s = ownsWith l (r .own e s)
+
   -- ---- refining
   -- `turnOf` casts at the crossing's angle, and not where it answers `Stop` (`turn-cast` of proofs/Visible.antt)
-  abbrev pub halveWith : (End → End → S → S) → View → End → End → Turn → S → S
-  halveWith again view a b Stop s = s
-  halveWith again view a b (Open p) s = r .push p corner (r .cast (crossingOf view (a .angle) p) s)
-  halveWith again view a b (Hidden p g e) s = again (endOf g e) b (r .push p e (again a (endOf g e) (r .own e (r .cast g s))))
+  abbrev pub halveWith : (End → End → S → S) → Env → End → End → Turn → S → S
+  halveWith again v a b Stop s = s
+  halveWith again v a b (Open p) s = r .push p corner (r .cast (crossingOf (v .view) (a .angle) p) s)
+  halveWith again v a b (Hidden p g e) s = again (endOf g e) b (r .push p e (again a (endOf g e) (ownsWith (v .credits g e) (r .cast g s))))
 
   unfoldable pub refineWith : Env → ℕ → End → End → S → S
   refineWith v zero a b s = s
-  refineWith v (suc f) a b s = halveWith (refineWith v f) (v .view) a b (turnOf v a b) s
+  refineWith v (suc f) a b s = halveWith (refineWith v f) v a b (turnOf v a b) s
 
   -- ---- a sample, and what lies between two
-  abbrev pub emitWith : Cast → View → Float → S → S
-  emitWith (Hit t e) view angle s = r .push (pointOf view angle (Hit t e)) e (r .own e s)
-  emitWith Miss view angle s = r .push (pointOf view angle Miss) corner s
+  abbrev pub emitWith : Cast → Env → Float → S → S
+  emitWith (Hit t e) v angle s = r .push (pointOf (v .view) angle (Hit t e)) e (ownsWith (v .credits angle e) s)
+  emitWith Miss v angle s = r .push (pointOf (v .view) angle Miss) corner s
 
   unfoldable pub arcWith : View → Float → Float → ℕ → ℕ → ℕ → S → S
   arcWith view angle gap steps i zero s = s
@@ -77,17 +83,21 @@ module _ {S : Type 0} (r : Recorder S) where
   unfoldable pub walkWith : Course → Sample → List Sample → S → S
   walkWith c first [] s = s
   walkWith c first (a ∷ l) s =
-      walkWith c first l (visitWith c a (nextOf (c .env .view .full) first l) (emitWith (a .hit) (c .env .view) (a .angle) s))
+      walkWith c first l (visitWith c a (nextOf (c .env .view .full) first l) (emitWith (a .hit) (c .env) (a .angle) s))
 
   unfoldable pub sweepWith : Course → List Sample → S → S
   sweepWith c [] s = s
   sweepWith c (a ∷ l) s = walkWith c a (a ∷ l) s
 
 -- ---- in lent lists, where `seen` corners are allowed; a run that is over stays as it is
+-- one owner more
+abbrev pub ownOne : Env → ℕ → Run → Run
+ownOne v e s = let q = ownOf (v .room) (v .owners) e (s .marks) (s .at) in runAt (s .pts) (q .marks) (q .at)
+
 abbrev pub bounded : Env → ℕ → Recorder Run
 bounded v seen = record {
   push = pushing (v .view .o);
-  own = owning v;
+  own = ownOne v;
   cast = λ _ s. cond (s .at .over) s (counting s);
   see = λ l s.
       let q = cond (ltb seen (length l)) (out (s .pts) (passed (s .at))) (pushAll (v .view .o) (v .points) l (out (s .pts) (s .at))) in
@@ -129,7 +139,7 @@ abbrev pub freeBegin : View → List ℕ → Free
 freeBegin view marks =
     let q = cond (view .full) (out [] none) (freePush (view .o) (view .o) corner (out [] none)) in freeAt (q .pts) marks (q .at) 0 [] []
 
--- the whole walk as the Rust makes it
+-- the whole walk as the Rust makes it, by the casts and credits of the course. In mode 0 these are the Rust's (`rust-growing`, crate `stages`)
 abbrev pub asRust : Course → List Sample → List ℕ → Free
 asRust c l marks = sweepWith (free (c .env)) c l (freeBegin (c .env .view) marks)
 

@@ -24,8 +24,9 @@ use Rattle.cone.specs.declared.View.{View}
 use Rattle.cone.specs.Cone.{three}
 use Rattle.index.specs.declared.AngularIndex.{AngularIndex}
 use Rattle.outline.specs.declared.Trace.{Trace}
-use Rattle.outline.specs.Outline.{corner, none, Out, out, pushOf, ownOf, Room}
-use Rattle.refining.specs.Refine.{pointOf, castIn, Env, env, Run, runAt, endOf, refineOf}
+use Rattle.outline.specs.Outline.{corner, none, Out, out, pushOf, Room}
+use Rattle.credit.specs.Credit.{ownAll}
+use Rattle.refining.specs.Refine.{pointOf, Env, envIn, Run, runAt, endOf, refineOf}
 use Rattle.seen.specs.Seen.{scene, cornersOf, seeOf}
 use Rattle.sweep.specs.declared.Next.{Next}
 use Rattle.sweep.specs.declared.Next.the-variants.{To, Last}
@@ -57,18 +58,18 @@ nextOf false first [] = Last
 unfoldable pub nextIn : Bool → (ℕ → Sample) → ℕ → ℕ → Next
 nextIn full at n i = cond (ltb (i + 1) n) (To (at (i + 1))) (cond full (To (turned (at 0))) Last)
 
--- ---- a sample's own point, and its owner
-abbrev pub emitBy : Cast → View → ℕ → List ℕ → Float → Run → Run
-emitBy (Hit t e) view room owners angle s =
-    let q = ownOf room owners e (s .marks) (s .at) in
+-- ---- a sample's own point, and the owners that its hit credits
+abbrev pub emitBy : Cast → View → ℕ → List ℕ → (Float → ℕ → List ℕ) → Float → Run → Run
+emitBy (Hit t e) view room owners credits angle s =
+    let q = ownAll room owners (credits angle e) (s .marks) (s .at) in
     let u = pushOf (view .o) (pointOf view angle (Hit t e)) e (s .pts) (q .at) in
     runAt (u .pts) (q .marks) (u .at)
-emitBy Miss view room owners angle s =
+emitBy Miss view room owners credits angle s =
     let u = pushOf (view .o) (pointOf view angle Miss) corner (s .pts) (s .at) in
     runAt (u .pts) (s .marks) (u .at)
 
-unfoldable pub emitOf : View → ℕ → List ℕ → Sample → Run → Run
-emitOf view room owners a s = emitBy (a .hit) view room owners (a .angle) s
+unfoldable pub emitOf : View → ℕ → List ℕ → (Float → ℕ → List ℕ) → Sample → Run → Run
+emitOf view room owners credits a s = emitBy (a .hit) view room owners credits (a .angle) s
 
 -- the counts afterwards: within their bounds, no cast more, no owner less
 pub record Emitted (l room : ℕ) (s r : Trace) : Type 0 where
@@ -118,7 +119,7 @@ pub record Course : Type 0 where
 -- as it stands in the work room
 abbrev pub courseIn : Rooms → AngularIndex → List Float → List ℕ → View → Float → List Float → List ℕ → List ℕ → Course
 courseIn k x floats words view step points polygons owners = record {
-  env = env (castIn k x floats words view) view points polygons owners (k .owners);
+  env = envIn k x floats words view points polygons owners;
   step = step;
   seen = k .seen;
   corners = cornersOf k floats words;
@@ -144,7 +145,7 @@ visitBy c a (To b) s = betweenOf c a b s
 visitBy c a Last s = s
 
 unfoldable pub visitOf : Course → Sample → Next → Run → Run
-visitOf c a next s = visitBy c a next (emitOf (c .env .view) (c .env .room) (c .env .owners) a s)
+visitOf c a next s = visitBy c a next (emitOf (c .env .view) (c .env .room) (c .env .owners) (c .env .credits) a s)
 
 -- the samples that are left, of which the first of all was `first`
 unfoldable pub walkOf : Course → Sample → List Sample → Run → Run

@@ -23,7 +23,7 @@ ghost use Rattle.geom.specs.Vec.{fromAngleOf};
 ghost use Rattle.room.specs.Layout.{seenW, wordsFor};
 ghost use Rattle.room.specs.Records.{Directed};
 ghost use Rattle.outline.specs.Outline.{none, out, Pushed, Room};
-ghost use Rattle.refining.specs.Refine.{castIn, env, runAt, Ready, Done};
+ghost use Rattle.refining.specs.Refine.{creditsIn, envIn, runAt, Ready, Done};
 ghost use Rattle.sweep.specs.Sweep.{sampleIn, dirIn, isPair, arcPoint, arcOf, stepsOf, emitOf, Emitted, gapOf, courseIn, betweenOf, visitOf, nextIn, withPost, beginOf, sweepOf, Walks, Swept};
 
 const TAU: f64 = 6.283185307179586;
@@ -78,27 +78,47 @@ fn is_pair(a: Sample, b: Sample) -> bool
     (a.offset == 0) & (b.offset == 2) & (b.event == a.event)
 }
 
-// The point and, where it hits, the owner of a sample, whose direction is `dir`.
+// The point and, where it hits, the owners of a sample, whose direction is `dir`. What `credit` does in mode 0 is done here too, which saves the call.
 fn emit(
+    k: Rooms,
+    x: AngularIndex,
+    floats: &[f64],
+    words: &[u32],
     owners: &[u32],
     pts: &mut [f64],
     marks: &mut [u8],
-    room: u32,
     view: View,
     a: Sample,
     dir: Vec2,
     s: Trace,
 ) -> Trace
-    requires { ⌜ (2 * s .points ≤ length (now pts)) × Room room s × (dir ≡ fromAngleOf (view .start ⊕ a .angle)) ⌝ }
-    ensures { λ r. ⌜ runAt (now (pts .exit)) (now (marks .exit)) r ≡ emitOf view room (now (owners .entry)) a (runAt (now (pts .entry)) (now (marks .entry)) s) ⌝ }
-    ensures { λ r. ⌜ Emitted (length (now (pts .entry))) room s r ⌝ }
+    requires { ⌜ (2 * s .points ≤ length (now pts)) × Room (k .owners) s × (dir ≡ fromAngleOf (view .start ⊕ a .angle)) ⌝ }
+    ensures { λ r. ⌜ runAt (now (pts .exit)) (now (marks .exit)) r ≡ emitOf view (k .owners) (now (owners .entry)) (creditsIn k x (now (floats .entry)) (now (words .entry)) (now (owners .entry)) view) a (runAt (now (pts .entry)) (now (marks .entry)) s) ⌝ }
+    ensures { λ r. ⌜ Emitted (length (now (pts .entry))) (k .owners) s r ⌝ }
 {
     let o = view.o;
     let hit = a.hit;
     let p = refining::point_along(view, dir, hit);
     match hit {
         Cast::Hit(_, e) => {
-            let t = outline::own(room, owners, marks, s, e);
+            if x.mode == 0 {
+                let q = outline::own(k.owners, owners, marks, s, e);
+                return outline::push(pts, q, o, p, e);
+            }
+            let t = credit::credit(
+                k,
+                x,
+                floats,
+                words,
+                owners,
+                marks,
+                o,
+                a.angle,
+                dir,
+                view.r,
+                e,
+                s,
+            );
             outline::push(pts, t, o, p, e)
         }
         Cast::Miss => outline::push(pts, s, o, p, CORNER),
@@ -155,7 +175,7 @@ fn fill_gap(
     s: Trace,
 ) -> Trace
     requires { ⌜ Ready (length (now pts)) (k .owners) s ⌝ }
-    ensures { λ r. ⌜ runAt (now (pts .exit)) (now (marks .exit)) r ≡ gapOf (env (castIn k x (now (floats .entry)) (now (words .entry)) view) view (now (points .entry)) (now (polygons .entry)) (now (owners .entry)) (k .owners)) step a b (runAt (now (pts .entry)) (now (marks .entry)) s) ⌝ }
+    ensures { λ r. ⌜ runAt (now (pts .exit)) (now (marks .exit)) r ≡ gapOf (envIn k x (now (floats .entry)) (now (words .entry)) view (now (points .entry)) (now (polygons .entry)) (now (owners .entry))) step a b (runAt (now (pts .entry)) (now (marks .entry)) s) ⌝ }
     ensures { λ r. ⌜ Done (length (now (pts .entry))) (k .owners) s r ⌝ }
 {
     let ha = a.hit;
@@ -289,7 +309,19 @@ fn visit(
     let a = sample_in(k, floats, &words[0..w], i);
     let dir = dir_in(k, floats, &words[0..w], i);
     let next = next_of(k, floats, &words[0..w], view, n, i);
-    let t = emit(owners, pts, marks, k.owners, view, a, dir, s);
+    let t = emit(
+        k,
+        x,
+        floats,
+        &words[0..w],
+        owners,
+        pts,
+        marks,
+        view,
+        a,
+        dir,
+        s,
+    );
     match next {
         Next::To(b) => between(
             k,

@@ -153,18 +153,18 @@ pub shows-fits : {d : Drawing} {a : Visibility} (o : List Float) (i : List ℕ) 
 shows-fits {d} {a} o i S = let e : 2 * pointsIn a ≡ length (d .pts) = ap (λ (x : Visibility). 2 * pointsIn x) (S .is) ∙ S .points-many in omega (arith, has-long o (d .pts) (S .points-laid))
 
 -- ---- `seen_from`
-module _ (site : Site) (t : Tables) (c : ViewCone) (tolerance : Float) (k : Rooms) (l : Lent) {p : Plan} {short : Bool} {room : ℕ} {ids : Listing} {m1 : List ℕ} {e1 : ℕ} {w1 : List ℕ} {a : Visibility}
+module _ (site : Site) (t : Tables) (c : ViewCone) (tolerance : Float) (mode : ℕ) (k : Rooms) (l : Lent) {p : Plan} {short : Bool} {room : ℕ} {ids : Listing} {m1 : List ℕ} {e1 : ℕ} {w1 : List ℕ} {a : Visibility}
     {f1 : List Float} {wz : List ℕ} {o1 : List Float} {v1 : List ℕ} {f2 : List Float} {w2 : List ℕ} {o2 : List Float} {v2 : List ℕ}
     (hp : p ≡ planOf (site .grid) (t .points) (t .boxes) (t .polygons) (t .starts) (t .items) c) (hs : short ≡ isShort k (length (l .floats)) (length (l .words))) (hr : room ≡ min (k .ids) (length (l .words)))
     (L : Looked (lookOf p (site .grid) (t .starts) (t .items) (l .marks) (l .epoch) room) ids m1 e1 w1)
-    (D : Shows (drawnOf short p (requestOf k t c tolerance l) (t .boxes) ids w1) a o1 v1)
+    (D : Shows (drawnOf short p (requestOf k t c tolerance mode l) (t .boxes) ids w1) a o1 v1)
     (lf : length f1 ≡ length (l .floats)) (lw : length wz ≡ length (l .words)) (lo : length o1 ≡ length (l .outline)) (lv : length v1 ≡ length (l .visible))
     (Z : Cleared a f1 wz o1 v1 f2 w2 o2 v2) where
   abbrev asked-by : query.Outcome
   asked-by = lookOf p (site .grid) (t .starts) (t .items) (l .marks) (l .epoch) room
 
   abbrev d : Drawing
-  d = drawnOf short p (requestOf k t c tolerance l) (t .boxes) ids w1
+  d = drawnOf short p (requestOf k t c tolerance mode l) (t .boxes) ids w1
 
   outline-is : o2 ≡ padded zeroF (length (l .outline)) (d .pts)
   outline-is = clear-padded zeroF o1 (d .pts) (2 * pointsIn a) (ap (λ (x : Visibility). 2 * pointsIn x) (D .is) ∙ D .points-many) (D .points-laid) (sym lo) (Z .outline)
@@ -172,13 +172,13 @@ module _ (site : Site) (t : Tables) (c : ViewCone) (tolerance : Float) (k : Room
   visible-is : v2 ≡ padded 0 (length (l .visible)) (d .ids)
   visible-is = clear-padded 0 v1 (d .ids) (idsIn a) (ap idsIn (D .is) ∙ D .ids-many) (D .ids-laid) (sym lv) (Z .visible)
 
-  same : d ≡ drawnOf (isShort k (length (l .floats)) (length (l .words))) p (requestOf k t c tolerance l) (t .boxes) (asked-by .answer) (asked-by .ids)
+  same : d ≡ drawnOf (isShort k (length (l .floats)) (length (l .words))) p (requestOf k t c tolerance mode l) (t .boxes) (asked-by .answer) (asked-by .ids)
   same =
-      drawn-same short p ids (requestOf k t c tolerance l) (t .boxes) w1 (asked-by .ids) (λ n read q. L .ids n read (sym (L .is) ∙ q))
-      ∙ ap (λ (s : Bool). drawnOf s p (requestOf k t c tolerance l) (t .boxes) ids (asked-by .ids)) hs
-      ∙ ap (λ (x : Listing). drawnOf (isShort k (length (l .floats)) (length (l .words))) p (requestOf k t c tolerance l) (t .boxes) x (asked-by .ids)) (L .is)
+      drawn-same short p ids (requestOf k t c tolerance mode l) (t .boxes) w1 (asked-by .ids) (λ n read q. L .ids n read (sym (L .is) ∙ q))
+      ∙ ap (λ (s : Bool). drawnOf s p (requestOf k t c tolerance mode l) (t .boxes) ids (asked-by .ids)) hs
+      ∙ ap (λ (x : Listing). drawnOf (isShort k (length (l .floats)) (length (l .words))) p (requestOf k t c tolerance mode l) (t .boxes) x (asked-by .ids)) (L .is)
 
-  pub seen-is : out a (lent m1 e1 f2 w2 o2 v2) ≡ seenFromOf site t c tolerance k l
+  pub seen-is : out a (lent m1 e1 f2 w2 o2 v2) ≡ seenFromOf site t c tolerance mode k l
   unfolding seenFromOf
   seen-is =
       rw (← hp, ← hr)

@@ -92,17 +92,17 @@ shown d a l =
     (lent (a .marks) (a .epoch) (replicate (length (l .floats)) zeroF) (replicate (length (l .words)) 0) (padded zeroF (length (l .outline)) (d .pts)) (padded 0 (length (l .visible)) (d .ids)))
 
 -- with a loaded cone and tolerance
-abbrev pub requestOf : Rooms → Tables → ViewCone → Float → Lent → Request
-requestOf k t c tolerance l = request k (t .points) (t .polygons) (t .owners) c tolerance (length (l .outline)) (length (l .visible))
+abbrev pub requestOf : Rooms → Tables → ViewCone → Float → ℕ → Lent → Request
+requestOf k t c tolerance mode l = request k (t .points) (t .polygons) (t .owners) c tolerance mode (length (l .outline)) (length (l .visible))
 
 abbrev pub lookIn : Plan → Site → Tables → Rooms → Lent → query.Outcome
 lookIn p site t k l = lookOf p (site .grid) (t .starts) (t .items) (l .marks) (l .epoch) (min (k .ids) (length (l .words)))
 
-abbrev pub shownBy : Plan → Site → Tables → ViewCone → Float → Rooms → Lent → Outcome
-shownBy p site t c tolerance k l =
-    shown (drawnOf (isShort k (length (l .floats)) (length (l .words))) p (requestOf k t c tolerance l) (t .boxes) (lookIn p site t k l .answer) (lookIn p site t k l .ids))
+abbrev pub shownBy : Plan → Site → Tables → ViewCone → Float → ℕ → Rooms → Lent → Outcome
+shownBy p site t c tolerance mode k l =
+    shown (drawnOf (isShort k (length (l .floats)) (length (l .words))) p (requestOf k t c tolerance mode l) (t .boxes) (lookIn p site t k l .answer) (lookIn p site t k l .ids))
     (lookIn p site t k l) l
 
 -- after the tests, of a loaded cone and tolerance
-unfoldable pub seenFromOf : Site → Tables → ViewCone → Float → Rooms → Lent → Outcome
-seenFromOf site t c tolerance k l = shownBy (planOf (site .grid) (t .points) (t .boxes) (t .polygons) (t .starts) (t .items) c) site t c tolerance k l
+unfoldable pub seenFromOf : Site → Tables → ViewCone → Float → ℕ → Rooms → Lent → Outcome
+seenFromOf site t c tolerance mode k l = shownBy (planOf (site .grid) (t .points) (t .boxes) (t .polygons) (t .starts) (t .items) c) site t c tolerance mode k l

@@ -104,9 +104,10 @@ fn drawn(
     words: &mut [u32],
     outline: &mut [f64],
     visible: &mut [u32],
+    mode: u32,
 ) -> Visibility
     requires { ⌜ Drawable short k (now polygons) a (now floats) (now words) ⌝ }
-    ensures { λ r. ⌜ Shows (drawnOf short p (request k (now (points .entry)) (now (polygons .entry)) (now (owners .entry)) cone tolerance (length (now (outline .entry))) (length (now (visible .entry))))
+    ensures { λ r. ⌜ Shows (drawnOf short p (request k (now (points .entry)) (now (polygons .entry)) (now (owners .entry)) cone tolerance mode (length (now (outline .entry))) (length (now (visible .entry))))
         (now (boxes .entry)) a (now (words .entry))) r (now (outline .exit)) (now (visible .exit)) ⌝ }
 {
     if short {
@@ -130,6 +131,7 @@ fn drawn(
                 words,
                 outline,
                 visible,
+                mode,
             ),
         },
     }
@@ -183,6 +185,7 @@ pub fn seen_from(
     items: &[u32],
     cone: ViewCone,
     tolerance: f64,
+    mode: u32,
     k: Rooms,
     marks: &mut [u32],
     epoch: &mut u32,
@@ -193,7 +196,7 @@ pub fn seen_from(
 ) -> Visibility
     requires { ⌜ Sound site (tables (now points) (now boxes) (now polygons) (now owners) (now starts) (now items)) ⌝ }
     ensures { λ a. ⌜ out a (lent (now (marks .exit)) (now (epoch .exit)) (now (floats .exit)) (now (words .exit)) (now (outline .exit)) (now (visible .exit)))
-        ≡ seenFromOf site (tables (now (points .entry)) (now (boxes .entry)) (now (polygons .entry)) (now (owners .entry)) (now (starts .entry)) (now (items .entry))) cone tolerance k
+        ≡ seenFromOf site (tables (now (points .entry)) (now (boxes .entry)) (now (polygons .entry)) (now (owners .entry)) (now (starts .entry)) (now (items .entry))) cone tolerance mode k
         (lent (now (marks .entry)) (now (epoch .entry)) (now (floats .entry)) (now (words .entry)) (now (outline .entry)) (now (visible .entry))) ⌝ }
 {
     let g = site.grid;
@@ -216,6 +219,7 @@ pub fn seen_from(
         &mut *words,
         &mut *outline,
         &mut *visible,
+        mode,
     );
     clear(a, floats, words, outline, visible);
     a

@@ -104,12 +104,12 @@ module _ (n : ℕ) where
         (λ _. either (eventsOver (q .k) (viewIn q) g) eight d fair-eight (λ _. spotted-fair (g .edges) h (g .candidates) (spotsFor (viewIn q) g))))
 
 -- ---- in a sound site: a visible id owns a front edge, which is an edge of a polygon that the box query listed
-module _ (site : Site) (t : Tables) (S : Sound site t) (c : ViewCone) (tolerance : Float) (k : Rooms) (l : Lent) where
+module _ (site : Site) (t : Tables) (S : Sound site t) (c : ViewCone) (tolerance : Float) (mode : ℕ) (k : Rooms) (l : Lent) where
   run-named : (boxes : List Float) (ids : List ℕ) → AllBelow (site .polygons) ids → (sp : List Spot)
-      → runOf (requestOf k t c tolerance l) (fanIn (requestOf k t c tolerance l) boxes ids .edges) sp .at .over ≡ false
-      → AllBelow (site .polygons) (markedOf (runOf (requestOf k t c tolerance l) (fanIn (requestOf k t c tolerance l) boxes ids .edges) sp .marks))
+      → runOf (requestOf k t c tolerance mode l) (fanIn (requestOf k t c tolerance mode l) boxes ids .edges) sp .at .over ≡ false
+      → AllBelow (site .polygons) (markedOf (runOf (requestOf k t c tolerance mode l) (fanIn (requestOf k t c tolerance mode l) boxes ids .edges) sp .marks))
   run-named boxes ids h sp o =
-      let q = requestOf k t c tolerance l in
+      let q = requestOf k t c tolerance mode l in
       let es = fanIn q boxes ids .edges in
       in-all (λ (x : ℕ). x < site .polygons) (markedOf (runOf q es sp .marks))
       (λ id i.
@@ -120,15 +120,15 @@ module _ (site : Site) (t : Tables) (S : Sound site t) (c : ViewCone) (tolerance
       subst (λ (x : ℕ). x < site .polygons) (w .owner) (S .owner-below (w .edge) e))
 
   listed-fair : (a : Listing) (boxes : List Float) (ids : List ℕ) → ((n read j : ℕ) → a ≡ listing.Listed n read → j < n → getD ids j 0 < site .polygons)
-      → Fair (site .polygons) (listedBy a (requestOf k t c tolerance l) boxes ids)
+      → Fair (site .polygons) (listedBy a (requestOf k t c tolerance mode l) boxes ids)
   unfolding stagedOf
   listed-fair (listing.Refused n) boxes ids h = fair-eight (site .polygons)
   listed-fair (listing.Listed n read) boxes ids h =
-      let q = requestOf k t c tolerance l in
+      let q = requestOf k t c tolerance mode l in
       let b : AllBelow (site .polygons) (take n ids) = at-all (λ (x : ℕ). x < site .polygons) (take n ids) 0 (λ i g. let j : i < n = omega (arith, length-take n ids) in rw getD-take (h n read i refl j)) in
       fanned-fair (site .polygons) q (fanIn q boxes (take n ids)) (run-named boxes (take n ids) b)
 
-  planned-fair : (p : Plan) → Fair (site .polygons) (planned p (requestOf k t c tolerance l) (t .boxes) (lookIn p site t k l .answer) (lookIn p site t k l .ids))
+  planned-fair : (p : Plan) → Fair (site .polygons) (planned p (requestOf k t c tolerance mode l) (t .boxes) (lookIn p site t k l .answer) (lookIn p site t k l .ids))
   unfolding planned lookOf
   planned-fair Empty = fair-plain (site .polygons) false _
   planned-fair Inside = fair-plain (site .polygons) true _
@@ -136,7 +136,7 @@ module _ (site : Site) (t : Tables) (S : Sound site t) (c : ViewCone) (tolerance
       listed-fair (lookIn (Query b) site t k l .answer) (t .boxes) (lookIn (Query b) site t k l .ids)
       (λ n read j e h. ids-named site t S b (l .marks) (l .epoch) (min (k .ids) (length (l .words))) n read j e h)
 
-  drawn-fair : (short : Bool) (p : Plan) → Fair (site .polygons) (drawnOf short p (requestOf k t c tolerance l) (t .boxes) (lookIn p site t k l .answer) (lookIn p site t k l .ids))
+  drawn-fair : (short : Bool) (p : Plan) → Fair (site .polygons) (drawnOf short p (requestOf k t c tolerance mode l) (t .boxes) (lookIn p site t k l .answer) (lookIn p site t k l .ids))
   unfolding drawnOf
   drawn-fair short p = either (site .polygons) short eight _ (fair-eight (site .polygons)) (λ _. planned-fair p)
 
@@ -145,26 +145,26 @@ module _ (site : Site) (t : Tables) (S : Sound site t) (c : ViewCone) (tolerance
   front d f =
       rw (f .many, take-append-seam (d .ids) _) (record { sound = S; once = f .once; named = f .named })
 
-  seen-distinct : Distinct site t (take (idsIn (seenFromOf site t c tolerance k l .answer)) (seenFromOf site t c tolerance k l .left .visible))
+  seen-distinct : Distinct site t (take (idsIn (seenFromOf site t c tolerance mode k l .answer)) (seenFromOf site t c tolerance mode k l .left .visible))
   unfolding seenFromOf
   seen-distinct =
       let p = planOf (site .grid) (t .points) (t .boxes) (t .polygons) (t .starts) (t .items) c in
       let short = isShort k (length (l .floats)) (length (l .words)) in
-      front (drawnOf short p (requestOf k t c tolerance l) (t .boxes) (lookIn p site t k l .answer) (lookIn p site t k l .ids)) (drawn-fair short p)
+      front (drawnOf short p (requestOf k t c tolerance mode l) (t .boxes) (lookIn p site t k l .answer) (lookIn p site t k l .ids)) (drawn-fair short p)
 
 -- ---- of the call
-module _ (site : Site) (t : Tables) (c : ViewCone) (tolerance : Float) (k : Rooms) (l : Lent) (s : Shown) where
-  named-by : (n : ℕ) → n ≡ admitOf site t c (length (l .marks)) → (b : Bool) → eqb n 0 ≡ b
-      → cond b (seenFromOf site t (loadConeOf c) (loadOf tolerance) k l) (out (Refused n) l) .answer ≡ Seen s
-      → Distinct site t (take (s .visible) (cond b (seenFromOf site t (loadConeOf c) (loadOf tolerance) k l) (out (Refused n) l) .left .visible))
+module _ (site : Site) (t : Tables) (c : ViewCone) (tolerance : Float) (mode : ℕ) (k : Rooms) (l : Lent) (s : Shown) where
+  named-by : (n : ℕ) → n ≡ admitOf site t c mode (length (l .marks)) → (b : Bool) → eqb n 0 ≡ b
+      → cond b (seenFromOf site t (loadConeOf c) (loadOf tolerance) mode k l) (out (Refused n) l) .answer ≡ Seen s
+      → Distinct site t (take (s .visible) (cond b (seenFromOf site t (loadConeOf c) (loadOf tolerance) mode k l) (out (Refused n) l) .left .visible))
   unfolding idsIn
   named-by n e true z h =
-      let S = sound site t (admitted-sound site t c (length (l .marks)) n e (eqb-true n 0 z)) in
-      let o = seenFromOf site t (loadConeOf c) (loadOf tolerance) k l in
-      subst (λ (m : ℕ). Distinct site t (take m (o .left .visible))) (ap idsIn h) (seen-distinct site t S (loadConeOf c) (loadOf tolerance) k l)
+      let S = sound site t (admitted-sound site t c mode (length (l .marks)) n e (eqb-true n 0 z)) in
+      let o = seenFromOf site t (loadConeOf c) (loadOf tolerance) mode k l in
+      subst (λ (m : ℕ). Distinct site t (take m (o .left .visible))) (ap idsIn h) (seen-distinct site t S (loadConeOf c) (loadOf tolerance) mode k l)
   named-by n e false z h = let y : _≡_ {A = ℕ} 0 1 = cc in absurd (omega arith)
 
   -- WHAT IS ANSWERED IS OF A SOUND SITE, and its ids are polygons of it, each once
-  pub visible-named : outcome site t c tolerance k l .answer ≡ Seen s → Distinct site t (take (s .visible) (outcome site t c tolerance k l .left .visible))
+  pub visible-named : outcome site t c tolerance mode k l .answer ≡ Seen s → Distinct site t (take (s .visible) (outcome site t c tolerance mode k l .left .visible))
   unfolding outcome
-  visible-named h = named-by (admitOf site t c (length (l .marks))) refl (eqb (admitOf site t c (length (l .marks))) 0) refl h
+  visible-named h = named-by (admitOf site t c mode (length (l .marks))) refl (eqb (admitOf site t c mode (length (l .marks))) 0) refl h

@@ -1,11 +1,11 @@
 -- WHAT A CALL LEAVES: the stamps do not go by the room (`stamps-free`), and a refusal as 8 leaves every work and output cell zero (`eight-zero`).
 -- Document 01, "Refusal numbers". Assumes nothing.
-use mathlib.Core.Path.{_≡_, refl, ap}
-use mathlib.Core.Bool.{Bool, true, false, cond}
+use mathlib.Core.Path.{_≡_, refl, ap, _∙_}
+use mathlib.Core.Bool.{Bool, true, false, _&&_, cond}
 use mathlib.Core.List.{List, [], _∷_}
 use Prim.Native.Nat.{ℕ, _*_, _<_, min}
 use native.Mathlib.Omega.{arith}
-use lib.Dec.{ltb, eqb}
+use lib.Dec.{leb, ltb, eqb}
 use lib.ListN.{length, replicate}
 use lib.Ieee.{Float}
 use Rattle.num.specs.Ops.{zeroF}
@@ -36,7 +36,7 @@ use Rattle.view.specs.declared.Plan.the-variants.{Empty, Inside, Query}
 use Rattle.stages.specs.declared.Shown.{Shown}
 use Rattle.stages.specs.declared.Visibility.the-variants.{Seen, Refused}
 use Rattle.cone.specs.Domain.{coneInDomain, loadConeOf}
-use Rattle.visibility.specs.Asked.{admitOf}
+use Rattle.visibility.specs.Asked.{askedInDomain, admitOf}
 use Rattle.view.specs.Post.{planOf}
 use Rattle.stages.specs.Drawing.{Request, viewIn, Drawing, eight, plain, fanIn, spotsFor, eventsOver, circleBy, raysOver, runOf, sweptOf, spotted, fanned, stagedOf}
 use Rattle.view.specs.Outcome.{Lent, out, lookOf, listedBy, planned, drawnOf, requestOf, lookIn, seenFromOf}
@@ -60,8 +60,8 @@ look-free Empty g starts items m e j j' = (refl, refl)
 look-free Inside g starts items m e j j' = (refl, refl)
 look-free (Query b) g starts items m e j j' = query-free g (rangeOf g b) starts items m e j j'
 
-module _ (site : Site) (t : Tables) (c : ViewCone) (tolerance tolerance' : Float) (k k' : Rooms) where
-  seen-free : (c' : ViewCone) (x y : Float) (l l' : Lent) → SameStamps l l' → SameStamps (seenFromOf site t c' x k l .left) (seenFromOf site t c' y k' l' .left)
+module _ (site : Site) (t : Tables) (c : ViewCone) (tolerance tolerance' : Float) (mode mode' : ℕ) (k k' : Rooms) where
+  seen-free : (c' : ViewCone) (x y : Float) (l l' : Lent) → SameStamps l l' → SameStamps (seenFromOf site t c' x mode k l .left) (seenFromOf site t c' y mode' k' l' .left)
   unfolding seenFromOf
   seen-free c' x y l l' s =
       let p = planOf (site .grid) (t .points) (t .boxes) (t .polygons) (t .starts) (t .items) c' in
@@ -69,16 +69,21 @@ module _ (site : Site) (t : Tables) (c : ViewCone) (tolerance tolerance' : Float
       record { marks = rw (s .marks, s .epoch) (f .0); epoch = rw (s .marks, s .epoch) (f .1) }
 
   by : (n : ℕ) (l l' : Lent) (b : Bool) → SameStamps l l'
-      → SameStamps (cond b (seenFromOf site t (loadConeOf c) (loadOf tolerance) k l) (out (Refused n) l) .left) (cond b (seenFromOf site t (loadConeOf c) (loadOf tolerance') k' l') (out (Refused n) l') .left)
+      → SameStamps (cond b (seenFromOf site t (loadConeOf c) (loadOf tolerance) mode k l) (out (Refused n) l) .left) (cond b (seenFromOf site t (loadConeOf c) (loadOf tolerance') mode' k' l') (out (Refused n) l') .left)
   by n l l' true s = seen-free (loadConeOf c) (loadOf tolerance) (loadOf tolerance') l l' s
   by n l l' false s = s
 
-  -- neither the stated entries, nor what is lent beside the stamps, nor the tolerance moves the stamps
-  pub stamps-free : (l l' : Lent) → SameStamps l l' → SameStamps (outcome site t c tolerance k l .left) (outcome site t c tolerance' k' l' .left)
+  -- the tests see of a mode only whether it is one
+  admit-same : leb mode 1 ≡ leb mode' 1 → (m : ℕ) → admitOf site t c mode m ≡ admitOf site t c mode' m
+  unfolding admitOf
+  admit-same h m = ap (λ (b : Bool). asked (λ n. n) site t (coneInDomain c && b) (cond (ltb m (site .polygons)) 7 0)) h
+
+  -- neither the stated entries, nor what is lent beside the stamps, nor the tolerance, nor which of the two modes it is moves the stamps
+  pub stamps-free : leb mode 1 ≡ leb mode' 1 → (l l' : Lent) → SameStamps l l' → SameStamps (outcome site t c tolerance mode k l .left) (outcome site t c tolerance' mode' k' l' .left)
   unfolding outcome
-  stamps-free l l' s =
-      rw (ap (λ (m : List ℕ). admitOf site t c (length m)) (s .marks))
-      (by (admitOf site t c (length (l' .marks))) l l' (eqb (admitOf site t c (length (l' .marks))) 0) s)
+  stamps-free h l l' s =
+      rw (ap (λ (m : List ℕ). admitOf site t c mode (length m)) (s .marks) ∙ admit-same h (length (l' .marks)))
+      (by (admitOf site t c mode' (length (l' .marks))) l l' (eqb (admitOf site t c mode' (length (l' .marks))) 0) s)
 
 -- ---- refused as 8
 -- a drawing refused as 8 has empty lists
@@ -145,12 +150,12 @@ pub record Zero (l x : Lent) : Type 0 where
   pub outline : x .outline ≡ replicate (length (l .outline)) zeroF
   pub visible : x .visible ≡ replicate (length (l .visible)) 0
 
-module _ (site : Site) (t : Tables) (c : ViewCone) (tolerance : Float) (k : Rooms) (l : Lent) where
-  seen-zero : (c' : ViewCone) (x : Float) → seenFromOf site t c' x k l .answer ≡ Refused 8 → Zero l (seenFromOf site t c' x k l .left)
+module _ (site : Site) (t : Tables) (c : ViewCone) (tolerance : Float) (mode : ℕ) (k : Rooms) (l : Lent) where
+  seen-zero : (c' : ViewCone) (x : Float) → seenFromOf site t c' x mode k l .answer ≡ Refused 8 → Zero l (seenFromOf site t c' x mode k l .left)
   unfolding seenFromOf
   seen-zero c' x e =
       let p = planOf (site .grid) (t .points) (t .boxes) (t .polygons) (t .starts) (t .items) c' in
-      let b = drawn-blank (requestOf k t c' x l) (isShort k (length (l .floats)) (length (l .words))) p (t .boxes) (lookIn p site t k l .answer) (lookIn p site t k l .ids) e in
+      let b = drawn-blank (requestOf k t c' x mode l) (isShort k (length (l .floats)) (length (l .words))) p (t .boxes) (lookIn p site t k l .answer) (lookIn p site t k l .ids) e in
       record { floats = refl; words = refl; outline = rw (b .pts) (padded-nil zeroF (length (l .outline))); visible = rw (b .ids) (padded-nil 0 (length (l .visible))) }
 
   few : (s i m : Bool) → cond s (cond i (cond m 7 0) 1) 6 < 8
@@ -159,15 +164,15 @@ module _ (site : Site) (t : Tables) (c : ViewCone) (tolerance : Float) (k : Room
   few true false m = omega arith
   few false i m = omega arith
 
-  admit-few : admitOf site t c (length (l .marks)) < 8
+  admit-few : admitOf site t c mode (length (l .marks)) < 8
   unfolding admitOf asked
-  admit-few = few (soundOf site t) (coneInDomain c) (ltb (length (l .marks)) (site .polygons))
+  admit-few = few (soundOf site t) (askedInDomain c mode) (ltb (length (l .marks)) (site .polygons))
 
-  zero-by : (n : ℕ) → n < 8 → (b : Bool) → cond b (seenFromOf site t (loadConeOf c) (loadOf tolerance) k l) (out (Refused n) l) .answer ≡ Refused 8
-      → Zero l (cond b (seenFromOf site t (loadConeOf c) (loadOf tolerance) k l) (out (Refused n) l) .left)
+  zero-by : (n : ℕ) → n < 8 → (b : Bool) → cond b (seenFromOf site t (loadConeOf c) (loadOf tolerance) mode k l) (out (Refused n) l) .answer ≡ Refused 8
+      → Zero l (cond b (seenFromOf site t (loadConeOf c) (loadOf tolerance) mode k l) (out (Refused n) l) .left)
   zero-by n h true e = seen-zero (loadConeOf c) (loadOf tolerance) e
   zero-by n h false e = let z : n ≡ 8 = cc in absurd (omega arith)
 
-  pub eight-zero : outcome site t c tolerance k l .answer ≡ Refused 8 → Zero l (outcome site t c tolerance k l .left)
+  pub eight-zero : outcome site t c tolerance mode k l .answer ≡ Refused 8 → Zero l (outcome site t c tolerance mode k l .left)
   unfolding outcome
-  eight-zero e = zero-by (admitOf site t c (length (l .marks))) admit-few (eqb (admitOf site t c (length (l .marks))) 0) e
+  eight-zero e = zero-by (admitOf site t c mode (length (l .marks))) admit-few (eqb (admitOf site t c mode (length (l .marks))) 0) e

@@ -17,13 +17,13 @@ use Rattle.cone.specs.Domain.{loadConeOf}
 use Rattle.visibility.specs.Asked.{admitOf}
 
 -- 6, 1, 7 write nothing
-abbrev pub outcomeBy : ℕ → Site → Tables → ViewCone → Float → Rooms → Lent → Outcome
-outcomeBy n site t c tolerance k l = cond (eqb n 0) (seenFromOf site t (loadConeOf c) (loadOf tolerance) k l) (out (Refused n) l)
+abbrev pub outcomeBy : ℕ → Site → Tables → ViewCone → Float → ℕ → Rooms → Lent → Outcome
+outcomeBy n site t c tolerance mode k l = cond (eqb n 0) (seenFromOf site t (loadConeOf c) (loadOf tolerance) mode k l) (out (Refused n) l)
 
 -- THE OUTCOME of an outline call
-unfoldable pub outcome : Site → Tables → ViewCone → Float → Rooms → Lent → Outcome
-outcome site t c tolerance k l = outcomeBy (admitOf site t c (length (l .marks))) site t c tolerance k l
+unfoldable pub outcome : Site → Tables → ViewCone → Float → ℕ → Rooms → Lent → Outcome
+outcome site t c tolerance mode k l = outcomeBy (admitOf site t c mode (length (l .marks))) site t c tolerance mode k l
 
 -- its promise, the one clause of its contract
-abbrev pub Promise : Site → Tables → ViewCone → Float → Rooms → Lent → Outcome → Type 0
-Promise site t c tolerance k l o = o ≡ outcome site t c tolerance k l
+abbrev pub Promise : Site → Tables → ViewCone → Float → ℕ → Rooms → Lent → Outcome → Type 0
+Promise site t c tolerance mode k l o = o ≡ outcome site t c tolerance mode k l

@@ -8,7 +8,7 @@ use crate::lent::Lent;
 use crate::sites::Plan;
 use crate::util::floats::some;
 use crate::util::rng::SplitMix64;
-use crate::util::timing::{Bench, Limit};
+use crate::util::timing::{Bench, Limit, TIED};
 use std::cell::RefCell;
 use std::hint::black_box;
 
@@ -181,7 +181,11 @@ fn cast_ray(table: &mut Bench, r: &mut SplitMix64, timed: &Timed, polygons: usiz
             },
         );
         let inner = |[ox, oy, dx, dy, t]: [f64; 5]| {
-            timed.site.inner_cast_ray((ox, oy), (dx, dy), t).0.to_bits()
+            timed
+                .site
+                .inner_cast_ray((ox, oy), (dx, dy), t, 0)
+                .0
+                .to_bits()
         };
         table.add(
             &format!("`cast_ray` of {length} without the table test, through the C call, {polygons} polygons"),
@@ -190,8 +194,23 @@ fn cast_ray(table: &mut Bench, r: &mut SplitMix64, timed: &Timed, polygons: usiz
             inner,
             rust,
         );
-        let ours =
-            |[ox, oy, dx, dy, t]: [f64; 5]| timed.site.cast_ray((ox, oy), (dx, dy), t).1.to_bits();
+        let tied = |[ox, oy, dx, dy, t]: [f64; 5]| {
+            timed
+                .site
+                .inner_cast_ray((ox, oy), (dx, dy), t, 1)
+                .0
+                .to_bits()
+        };
+        table.add(
+            &format!("`cast_ray` of {length} in mode 1 without the table test, through the C call, with ours in mode 0 in the Rust's place, {polygons} polygons"),
+            TIED,
+            &rays,
+            tied,
+            inner,
+        );
+        let ours = |[ox, oy, dx, dy, t]: [f64; 5]| {
+            timed.site.cast_ray((ox, oy), (dx, dy), t, 0).1.to_bits()
+        };
         table.add(
             &format!("`cast_ray` of {length}, {polygons} polygons"),
             Limit::None,

@@ -182,6 +182,15 @@ fn damage(r: &mut SplitMix64, s: &mut Lent) {
     }
 }
 
+/// The site with damage enough to be unsound.
+pub fn unsound(r: &mut SplitMix64, site: &Lent) -> Lent {
+    let mut s = site.clone();
+    while is_sound(&s) {
+        damage(r, &mut s);
+    }
+    s
+}
+
 #[derive(Default)]
 struct Counts {
     sites: u64,
@@ -258,7 +267,7 @@ fn ask(r: &mut SplitMix64, c: &mut Counts, s: &Lent, sound: bool) {
         }
         3 | 4 => {
             let d = (r.between(-1.0, 1.0), r.between(-1.0, 1.0));
-            let (status, t, found) = s.cast_ray(p, d, r.pick(&[100.0, f64::INFINITY, 1e6]));
+            let (status, t, found) = s.cast_ray(p, d, r.pick(&[100.0, f64::INFINITY, 1e6]), 0);
             c.add(
                 sound,
                 status,

@@ -4,7 +4,7 @@
 //! What is written is read back, and held against the functions that are linked here.
 
 use super::given::{self, Given};
-use super::{Held, aabb, four, is_coordinate, loaded, padded, vec2};
+use super::{Held, aabb, four, is_coordinate, loaded, padded, ties, vec2};
 use crate::grid::lines::kind;
 use crate::grid::questions::{self, BOXES, POINTS, RAYS};
 use crate::grid::sites::Site as Gridded;
@@ -16,9 +16,9 @@ use crate::util::bits::step;
 use crate::util::call::{floats, pattern};
 use crate::util::rng::SplitMix64;
 use crate::view::lines as outlines;
-use oracle::{Scene, Stamps, seam};
+use oracle::{Scene, Stamps};
 
-/// Sites that are built, and questions of each function to each.
+/// Sites that are built, and questions of each function to each. Lines with a mode come after all others.
 const SITES: usize = 60;
 const QUESTIONS: [(u64, usize); 8] = [
     (602, 3),
@@ -30,6 +30,11 @@ const QUESTIONS: [(u64, usize); 8] = [
     (608, 1),
     (701, 9),
 ];
+const MODED: [u64; 2] = [702, 703];
+
+/// Sites with ties, and outlines and rays of each.
+const TIED: usize = 15;
+const TIED_QUESTIONS: usize = 4;
 
 /// What the program has room for: polygons, numbers of points, and what it lends for the tables.
 const POLYGONS: usize = 16;
@@ -47,7 +52,7 @@ type Words = Vec<u64>;
 
 /// Writes the sample. Says whether ours answers as it has it.
 pub fn write(path: &str) -> Result<bool, String> {
-    let text = built() + &refused();
+    let text = built() + &refused() + &tied();
     std::fs::write(path, &text).map_err(|e| format!("{path}: {e}"))?;
     let read = std::fs::read_to_string(path).map_err(|e| format!("{path}: {e}"))?;
     replayed(&read)
@@ -173,11 +178,9 @@ fn built() -> String {
 /// A site with one outline, which shows a fault that we carry.
 fn carried() -> String {
     let (plan, asked) = outlines::carried();
-    let (given, scene) = (Given::new(&plan), plan.scene());
-    assert!(given.verdict(ROOM) == 0, "a site of ours");
-    let site = told(0, &given::of_scene(&scene));
+    let scene = plan.scene();
     let answer = rust_answer(&scene, 701, &asked);
-    line(&[&[601], &given_words(&given)[..], &site]) + &line(&[&[701], &asked, &answer])
+    site_line(&plan, &scene) + &line(&[&[701], &asked, &answer])
 }
 
 /// Inputs that are refused, each with questions after it: there is no sound site then.
@@ -218,6 +221,104 @@ fn refused() -> String {
     all.iter().map(lines).collect()
 }
 
+/// Small sites of the groups of ties, each with outlines and rays in a mode. Before them stand the sites
+/// that are pinned, and last one that is refused: 6 goes before the mode.
+fn tied() -> String {
+    let r = &mut SplitMix64::new(9_702);
+    let held = &mut Held::new();
+    let mut text = String::new();
+    for (plan, asked) in outlines::pinned() {
+        let scene = plan.scene();
+        text += &site_line(&plan, &scene);
+        for asked in asked {
+            text += &line(&[&[702], &asked, &rust_answer(&scene, 702, &asked)]);
+        }
+    }
+    let groups = sites::ties::groups();
+    let mut found = 0;
+    for group in groups.iter().cycle() {
+        if found == TIED {
+            break;
+        }
+        let plan = (group.make)(r);
+        let given = Given::new(&plan);
+        if given.lens.len() > POLYGONS || given.points.len() > NUMBERS || given.verdict(ROOM) != 0 {
+            continue;
+        }
+        let scene = plan.scene();
+        let gridded = Gridded::of_scene(&scene);
+        let turns = found * TIED_QUESTIONS..(found + 1) * TIED_QUESTIONS;
+        let views = turns
+            .clone()
+            .map(|turn| outlines::tied_question(r, &scene, turn));
+        let Some(views) = views.collect::<Option<Vec<Words>>>() else {
+            continue;
+        };
+        text += &site_line(&plan, &scene);
+        for asked in views {
+            text += &line(&[&[702], &asked, &rust_answer(&scene, 702, &asked)]);
+        }
+        for turn in turns {
+            let asked = tied_look(r, held, &scene, &gridded, turn);
+            text += &line(&[&[703], &asked, &rust_answer(&scene, 703, &asked)]);
+        }
+        found += 1;
+    }
+    let none = Given {
+        size: (10.0, 10.0),
+        points: vec![1.0; 7],
+        lens: vec![4],
+    };
+    let build = line(&[
+        &[601],
+        &given_words(&none)[..],
+        &told(3, &given::refused(ROOM)),
+    ]);
+    let cone = &outlines::carried().1[..];
+    let outline = line(&[&[702], &[2], cone, &outlines::refused(6)]);
+    let ray = [2, 0, 0, argument(1.0), 0, argument(5.0)];
+    text + &build + &outline + &line(&[&[703], &ray, &told_look(6, 0.0, [0; 3])])
+}
+
+fn site_line(plan: &Plan, scene: &Scene) -> String {
+    let given = Given::new(plan);
+    assert!(given.verdict(ROOM) == 0, "a site of ours");
+    line(&[
+        &[601],
+        &given_words(&given)[..],
+        &told(0, &given::of_scene(scene)),
+    ])
+}
+
+/// A ray with its mode: most often 1, with another edge than in mode 0 where one is soon found.
+fn tied_look(
+    r: &mut SplitMix64,
+    held: &mut Held,
+    scene: &Scene,
+    gridded: &Gridded,
+    turn: usize,
+) -> Words {
+    let mode = match turn {
+        _ if turn % 13 == 11 => r.pick(&[2, 3, u32::MAX]),
+        _ if turn % 6 == 4 => 0,
+        _ => 1,
+    };
+    let tries = if turn % 4 == 3 { 0 } else { 200 };
+    let mut asked = ties::ray(r, held, scene, gridded);
+    for _ in 0..tries {
+        if is_inside(asked) && ties::rust(scene, asked, 0) != ties::rust(scene, asked, 1) {
+            break;
+        }
+        asked = ties::ray(r, held, scene, gridded);
+    }
+    let (o, d) = (asked.origin, asked.direction);
+    let numbers = [o.0, o.1, d.0, d.1, asked.length];
+    [u64::from(mode)]
+        .into_iter()
+        .chain(bits(&numbers))
+        .collect()
+}
+
 // ---- words
 
 fn given_words(given: &Given) -> Words {
@@ -255,6 +356,8 @@ fn length(number: u64, words: &[u64]) -> Option<usize> {
         606 | 607 => Some(1),
         608 => Some(0),
         701 => Some(outlines::ARGUMENTS),
+        702 => Some(1 + outlines::ARGUMENTS),
+        703 => Some(6),
         _ => None,
     }
 }
@@ -368,7 +471,7 @@ fn rust_answer(scene: &Scene, number: u64, words: &[u64]) -> Words {
             let numbers = [0, ids.len() as u64];
             numbers.into_iter().chain(widened(ids)).collect()
         }
-        604 => rust_look(scene, ray(words)),
+        604 => rust_look(scene, 0, ray(words)),
         606 => {
             let e = words[0] as u32;
             if e as usize >= scene.vertices().len() {
@@ -386,7 +489,9 @@ fn rust_answer(scene: &Scene, number: u64, words: &[u64]) -> Words {
             let p = scene.polygon(id);
             told_polygon(0, [p.first, p.len], four(p.aabb))
         }
-        701 => outlines::rust_answer(scene, words),
+        701 => outlines::rust_answer(scene, 0, words),
+        702 => outlines::rust_answer(scene, words[0] as u32, &words[1..]),
+        703 => rust_look(scene, words[0] as u32, ray(&words[1..])),
         _ => {
             let (cols, rows) = scene.grid().dims();
             let size = [scene.width(), scene.height()];
@@ -400,21 +505,23 @@ fn rust_answer(scene: &Scene, number: u64, words: &[u64]) -> Words {
     }
 }
 
-fn rust_look(scene: &Scene, ray: Ray) -> Words {
+fn is_inside(ray: Ray) -> bool {
     let (o, d) = (ray.origin, ray.direction);
-    let inside = [o.0, o.1, d.0, d.1].iter().all(|&x| is_coordinate(x));
-    if !inside || ray.length.is_nan() {
+    [o.0, o.1, d.0, d.1].iter().all(|&x| is_coordinate(x)) && !ray.length.is_nan()
+}
+
+fn rust_look(scene: &Scene, mode: u32, ray: Ray) -> Words {
+    if !is_inside(ray) || mode > 1 {
         return told_look(1, 0.0, [0; 3]);
     }
-    let (origin, direction) = (
-        vec2((loaded(o.0), loaded(o.1))),
-        vec2((loaded(d.0), loaded(d.1))),
-    );
-    seam::reset();
-    let hit = scene.cast_ray(origin, direction, loaded(ray.length));
-    let cells = seam::counts()[seam::CELLS] as u64;
+    let (hit, cells) = ties::rust(scene, ray, mode);
     let (t, edge) = hit.map_or((0.0, 0), |h| (h.t, h.edge.into()));
     told_look(0, t, [u64::from(hit.is_some()), edge, cells])
+}
+
+fn our_look(site: &Lent, mode: u32, ray: Ray) -> Words {
+    let (status, t, found) = site.cast_ray(ray.origin, ray.direction, ray.length, mode);
+    told_look(status, t, found)
 }
 
 fn our_answer(site: &Lent, number: u64, words: &[u64]) -> Words {
@@ -431,11 +538,7 @@ fn our_answer(site: &Lent, number: u64, words: &[u64]) -> Words {
             let (status, found) = site.polygon_at((x, y));
             widened(&[status, found[0], found[1]]).collect()
         }
-        604 => {
-            let ray = ray(words);
-            let (status, t, found) = site.cast_ray(ray.origin, ray.direction, ray.length);
-            told_look(status, t, found)
-        }
+        604 => our_look(site, 0, ray(words)),
         605 => {
             let [x, y] = floats(words);
             let (status, number) = site.items_at_number((x, y));
@@ -455,7 +558,9 @@ fn our_answer(site: &Lent, number: u64, words: &[u64]) -> Words {
             let (status, place, b) = site.polygon(words[0] as u32);
             told_polygon(status, place, b)
         }
-        701 => outlines::our_answer(site, words),
+        701 => outlines::our_answer(site, 0, words),
+        702 => outlines::our_answer(site, words[0] as u32, &words[1..]),
+        703 => our_look(site, words[0] as u32, ray(&words[1..])),
         _ => {
             let ((a, four), (b, width)) = (site.bounds(), site.width());
             let ((c, height), (d, dims)) = (site.height(), site.dims());
@@ -500,9 +605,9 @@ fn replayed(text: &str) -> Result<bool, String> {
             top = number;
         }
     }
-    let numbers = QUESTIONS.map(|(number, _)| number);
-    if functions.split_first() != Some((&601, &numbers[..])) {
-        return Err("the first site is not asked in the order of the numbers".to_string());
+    let first = [601].into_iter().chain(QUESTIONS.map(|(number, _)| number));
+    if !functions.iter().copied().eq(first.chain(MODED)) {
+        return Err("new functions are not asked in the order of the numbers".to_string());
     }
     let (n, f) = (text.lines().count(), functions.len());
     println!("{n} answers of {f} functions over {sites} sites, {differ} differ");

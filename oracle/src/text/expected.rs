@@ -100,7 +100,7 @@ fn shown(scene: &Scene, post: Point, range: f64) -> Expected {
         fov: TAU,
     };
     let marks = vec![0; scene.polygons().len()];
-    let seen = view::rust(scene, cone, TOLERANCE, &marks, 0);
+    let seen = view::rust(scene, cone, TOLERANCE, 0, &marks, 0);
     let run = Run {
         needs: seen.needs,
         points: seen.outline.len() / 2,

@@ -249,6 +249,9 @@ pub enum Limit {
     Times(f64),
 }
 
+/// How many times the time of mode 0 mode 1 may take.
+pub const TIED: Limit = Limit::Times(1.3);
+
 impl Limit {
     fn show(self) -> String {
         match self {

@@ -1,12 +1,13 @@
 //! Timings of outlines on random sites of 2000 by 2000, from posts in the open: with the test of the
-//! tables, and without it, beside the Rust as published, one thread on either side.
+//! tables, and without it, beside the Rust as published, one thread on either side; and in mode 1 beside
+//! ours in mode 0.
 
 use crate::lent::{Cone, Entries, Lent, Work, room_for};
 use crate::scene::given::{self, Given};
 use crate::sites::Plan;
 use crate::util::arena;
 use crate::util::rng::SplitMix64;
-use crate::util::timing::{Bench, Limit, Sides};
+use crate::util::timing::{Bench, Limit, Sides, TIED};
 use plain::{Scene, SceneConfig, Vec2, ViewCone, VisibilityOptions, compute_visibility};
 use std::cell::RefCell;
 use std::f64::consts::{FRAC_PI_2, TAU};
@@ -80,15 +81,14 @@ fn plan(scene: &Scene) -> Plan {
     }
 }
 
-/// Views of one site, from posts in the open, and the room for them.
+/// Views of one site, from posts in the open, and the room for them in either mode.
 struct Views<'a> {
     scene: &'a Scene,
     site: &'a Lent,
     range: f64,
     fov: f64,
     posts: Vec<[f64; 3]>,
-    needs: Entries,
-    work: RefCell<Work>,
+    rooms: [(Entries, RefCell<Work>); 2],
 }
 
 impl<'a> Views<'a> {
@@ -101,15 +101,18 @@ impl<'a> Views<'a> {
             }
         }
         // The room is cleared as far as it is lent, so no more is lent than is needed.
-        let (needs, points, ids) = needs(scene, &posts, range, fov);
-        let (floats, words) = room_for(needs);
-        let work = RefCell::new(Work {
-            marks: vec![0; scene.polygons().len()],
-            epoch: 0,
-            floats: vec![0.0; floats],
-            words: vec![0; words],
-            outline: vec![0.0; points],
-            visible: vec![0; ids],
+        let rooms = [0, 1].map(|mode| {
+            let (needs, points, ids) = needs(scene, &posts, range, fov, mode);
+            let (floats, words) = room_for(needs);
+            let work = Work {
+                marks: vec![0; scene.polygons().len()],
+                epoch: 0,
+                floats: vec![0.0; floats],
+                words: vec![0; words],
+                outline: vec![0.0; points],
+                visible: vec![0; ids],
+            };
+            (needs, RefCell::new(work))
         });
         Self {
             scene,
@@ -117,8 +120,7 @@ impl<'a> Views<'a> {
             range,
             fov,
             posts,
-            needs,
-            work,
+            rooms,
         }
     }
 
@@ -132,12 +134,14 @@ impl<'a> Views<'a> {
     }
 
     /// Ours without the test of the tables.
-    fn inner(&self, post: [f64; 3]) -> u64 {
+    fn inner(&self, mode: u32, post: [f64; 3]) -> u64 {
+        let (needs, work) = &self.rooms[mode as usize];
         let (status, answer) = self.site.inner_outline(
             self.cone(post),
             TOLERANCE,
-            self.needs,
-            &mut self.work.borrow_mut(),
+            mode,
+            *needs,
+            &mut work.borrow_mut(),
         );
         assert!(status == 0, "room enough");
         answer[2]
@@ -145,12 +149,14 @@ impl<'a> Views<'a> {
 
     /// Ours with it.
     fn tested(&self, post: [f64; 3]) -> u64 {
+        let (needs, work) = &self.rooms[0];
         self.site
             .outline(
                 self.cone(post),
                 TOLERANCE,
-                self.needs,
-                &mut self.work.borrow_mut(),
+                0,
+                *needs,
+                &mut work.borrow_mut(),
             )
             .1[2]
     }
@@ -170,8 +176,17 @@ impl<'a> Views<'a> {
             &format!("outline without the table test, {what}"),
             LIMIT,
             &self.posts,
-            |p| self.inner(p),
+            |p| self.inner(0, p),
             |p| self.published(p),
+        );
+        table.add_few(
+            &format!(
+                "outline in mode 1 without the table test, with ours in mode 0 in the Rust's place, {what}"
+            ),
+            TIED,
+            &self.posts,
+            |p| self.inner(1, p),
+            |p| self.inner(0, p),
         );
         // The Rust allocates its lists, ours are lent: on small sites that is some of its time.
         if self.fov > TAU {
@@ -179,7 +194,7 @@ impl<'a> Views<'a> {
                 &format!("outline without the table test, the Rust's allocation free, {what}"),
                 Limit::None,
                 &self.posts,
-                |p| self.inner(p),
+                |p| self.inner(0, p),
                 |p| arena::free(|| self.published(p)),
             );
         }
@@ -199,7 +214,7 @@ impl Sides<[f64; 3]> for Views<'_> {
     }
 
     fn ours(&self, post: [f64; 3]) -> u64 {
-        self.inner(post)
+        self.inner(0, post)
     }
 
     fn rust(&self, post: [f64; 3]) -> u64 {
@@ -208,7 +223,13 @@ impl Sides<[f64; 3]> for Views<'_> {
 }
 
 /// The greatest needs of the views, by the oracle's seams; numbers of the outline; visible ids.
-fn needs(scene: &Scene, posts: &[[f64; 3]], range: f64, fov: f64) -> (Entries, usize, usize) {
+fn needs(
+    scene: &Scene,
+    posts: &[[f64; 3]],
+    range: f64,
+    fov: f64,
+    mode: u32,
+) -> (Entries, usize, usize) {
     let theirs = plan(scene).scene();
     let (mut most, mut points, mut ids) = ([1; 9], 0, 0);
     for &[x, y, direction] in posts {
@@ -218,7 +239,8 @@ fn needs(scene: &Scene, posts: &[[f64; 3]], range: f64, fov: f64) -> (Entries, u
             direction,
             fov,
         };
-        let seen = super::rust(&theirs, c, TOLERANCE, &vec![0; scene.polygons().len()], 0);
+        let marks = vec![0; scene.polygons().len()];
+        let seen = super::rust(&theirs, c, TOLERANCE, mode, &marks, 0);
         for (most, need) in most.iter_mut().zip(seen.needs) {
             *most = need.max(*most);
         }

@@ -1,7 +1,7 @@
-//! Line 701 of the sample over sites: an outline of the site, as crates/replay_sites/src/outlines.rt
-//! asks for it.
+//! Lines 701 and 702 of the sample over sites: an outline of the site, as
+//! crates/replay_sites/src/outlines.rt asks for it. A line 702 has the mode before the cone.
 
-use super::{Seen, lent, post, rust};
+use super::{Seen, lent, post, rust, ties};
 use crate::lent::{Cone, Entries, Lent, room_for};
 use crate::sample::argument;
 use crate::sites::Plan;
@@ -34,14 +34,77 @@ pub fn question(r: &mut SplitMix64, scene: &Scene, turn: usize) -> Words {
         if is_spoilt(turn) || (tries == 0 && !in_domain(cone)) {
             return words(cone, tolerance);
         }
-        let seen = in_domain(cone).then(|| rust_outline(scene, cone, tolerance));
-        let short = |seen: &Seen| fits(seen) && seen.outline.len() <= 2 * LONGEST;
+        let seen = in_domain(cone).then(|| rust_outline(scene, 0, cone, tolerance));
         let rich = |seen: &Seen| tries == 0 || !seen.outline.is_empty();
-        if seen.is_some_and(|seen| short(&seen) && rich(&seen)) {
+        if seen.is_some_and(|seen| is_short(&seen) && rich(&seen)) {
             return words(cone, tolerance);
         }
         tries = tries.saturating_sub(1);
     }
+}
+
+/// A question with its mode, from a place where two owners are tied, if one is soon found; where other ids
+/// are seen than in mode 0, if that is. Most often in mode 1; each sixth is in mode 0, and now and then there
+/// is no such mode.
+pub fn tied_question(r: &mut SplitMix64, scene: &Scene, turn: usize) -> Option<Words> {
+    let mode = match turn {
+        _ if turn % 13 == 12 => r.pick(&[2, 3, u32::MAX]),
+        _ if turn % 6 == 5 => 0,
+        _ => 1,
+    };
+    let mut found = None;
+    for _ in 0..200 {
+        let (cone, tolerance) = (ties::cone(r, scene), r.pick(&[0.1, 0.1, 0.5, 2.0]));
+        if !in_domain(cone) {
+            continue;
+        }
+        let [old, seen] = [0, 1].map(|mode| rust_outline(scene, mode, cone, tolerance));
+        if seen.shared > 0 && is_short(&old) && is_short(&seen) {
+            found = Some(moded(mode, cone, tolerance));
+            if old.visible != seen.visible {
+                break;
+            }
+        }
+    }
+    found
+}
+
+/// Small sites, each with an outline in both modes. First two sheds with their front wall in common, in
+/// either order: the Rust credits the one that is given first, mode 1 both. Then what follows from a
+/// nearness that is rounded above the distance: a triangle given twice whose second wall is not tested; a
+/// wall at the range that mode 1 sees; a polygon that only mode 0 sees.
+pub fn pinned() -> Vec<(Plan, [Words; 2])> {
+    let shed = |depth: f64| vec![(0.0, 0.0), (8.0, 0.0), (8.0, depth), (0.0, depth)];
+    let twice = vec![(7.0, 3.0), (6.0, 0.0), (8.0, 9.0)];
+    let at_range = vec![(0.0, 2.0), (5.0, 2.0), (8.0, -4.0)];
+    let nearer = vec![(4.0, 0.0), (1.0, -7.0), (7.0, 7.0)];
+    let farther = vec![(-7.0, 5.0), (4.0, 0.0), (4.0, 1.0)];
+    let before = (4.0, -6.0);
+    let all = [
+        (before, 40.0, 0.0, TAU, vec![shed(5.0), shed(9.0)]),
+        (before, 40.0, 0.0, TAU, vec![shed(9.0), shed(5.0)]),
+        ((0.0, 0.0), 9.0, -1.0, 2.0, vec![twice.clone(), twice]),
+        ((0.0, 0.0), 1.6, 0.0, TAU, vec![at_range]),
+        ((0.0, 0.0), 9.0, -0.5, 1.0, vec![nearer, farther]),
+    ];
+    let asked = |(post, range, direction, fov, rings)| {
+        let size = (0.0, 0.0);
+        let cone = Cone {
+            post,
+            range,
+            direction,
+            fov,
+        };
+        let both = [0, 1].map(|mode| moded(mode, cone, 0.1));
+        (Plan { size, rings }, both)
+    };
+    all.into_iter().map(asked).collect()
+}
+
+fn moded(mode: u32, cone: Cone, tolerance: f64) -> Words {
+    let mut all = vec![u64::from(mode)];
+    all.extend(words(cone, tolerance));
+    all
 }
 
 /// Every seventeenth is outside the domain.
@@ -113,7 +176,7 @@ pub fn carried() -> (Plan, Words) {
         direction: 0.0,
         fov: TAU,
     };
-    let seen = rust_outline(&plan.scene(), cone, 0.1);
+    let seen = rust_outline(&plan.scene(), 0, cone, 0.1);
     assert!(fits(&seen) && seen.answer[2] == 4, "four points");
     (plan, words(cone, 0.1))
 }
@@ -138,9 +201,13 @@ fn fits(seen: &Seen) -> bool {
         && seen.visible.len() <= IDS
 }
 
-fn rust_outline(scene: &Scene, cone: Cone, tolerance: f64) -> Seen {
+fn is_short(seen: &Seen) -> bool {
+    fits(seen) && seen.outline.len() <= 2 * LONGEST
+}
+
+fn rust_outline(scene: &Scene, mode: u32, cone: Cone, tolerance: f64) -> Seen {
     let marks = vec![0; scene.polygons().len()];
-    rust(scene, cone, tolerance, &marks, 0)
+    rust(scene, cone, tolerance, mode, &marks, 0)
 }
 
 fn cone_of(words: &[u64]) -> (Cone, f64) {
@@ -168,20 +235,20 @@ pub fn refused(status: u32) -> Words {
     told(status, [0; 9], &[], &[])
 }
 
-pub fn rust_answer(scene: &Scene, words: &[u64]) -> Words {
+pub fn rust_answer(scene: &Scene, mode: u32, words: &[u64]) -> Words {
     let (cone, tolerance) = cone_of(words);
-    if !in_domain(cone) {
+    if !in_domain(cone) || mode > 1 {
         return refused(1);
     }
-    let seen = rust_outline(scene, cone, tolerance);
+    let seen = rust_outline(scene, mode, cone, tolerance);
     assert!(fits(&seen), "chosen to fit");
     told(0, seen.answer, &seen.outline, &seen.visible)
 }
 
-pub fn our_answer(site: &Lent, words: &[u64]) -> Words {
+pub fn our_answer(site: &Lent, mode: u32, words: &[u64]) -> Words {
     let (cone, tolerance) = cone_of(words);
     let mut work = lent(&[0; IDS], 0, room_for(ENTRIES), 2 * POINTS, IDS);
-    let (status, answer) = site.outline(cone, tolerance, ENTRIES, &mut work);
+    let (status, answer) = site.outline(cone, tolerance, mode, ENTRIES, &mut work);
     let (points, ids) = (answer[2] as usize, answer[3] as usize);
     let (outline, visible) = (&work.outline[..2 * points], &work.visible[..ids]);
     told(status, answer, outline, visible)

@@ -24,7 +24,7 @@ count-refs-requires c κs =
     let en = c .before .before .before .before .before .before .before .events-w in
     let ord = c .before .before .before .before .before .before .order-keys in
     let x = c .before .before .before .head in
-    let f = some-few (a .args .k) (a .args .floats .now) (a .args .words .now) (a .args .n) (a .args .total) (a .pre) (ord .last .1 .0) (at .result) (en .result) (at .ensures) (en .ensures) (ord .ensures) (x .result) (x .ensures) in
+    let f = some-few (a .args .mode) (a .args .k) (a .args .floats .now) (a .args .words .now) (a .args .n) (a .args .total) (a .pre) (ord .last .1 .0) (at .result) (en .result) (at .ensures) (en .ensures) (ord .ensures) (x .result) (x .ensures) in
     (f .0, f .1, omega (arith, a .pre .held))
 
 same-length : tie.Need-same-length
@@ -37,7 +37,7 @@ returns c =
     let en = c .before .before .before .before .before .before .before .before .events-w in
     let ord = c .before .before .before .before .before .before .before .order-keys in
     let x = c .before .before .before .before .head in
-    over-starts (a .args .k) (a .args .floats .now) (a .args .words .now) (a .args .n) (a .args .total) (a .pre) (ord .last .1 .0) (at .result) (en .result) (at .ensures) (en .ensures) (ord .ensures) (x .result) (x .ensures) (c .count-refs .result) (c .count-refs .ensures) (c .before .if1 .taken)
+    over-starts (a .args .mode) (a .args .k) (a .args .floats .now) (a .args .words .now) (a .args .n) (a .args .total) (a .pre) (ord .last .1 .0) (at .result) (en .result) (at .ensures) (en .ensures) (ord .ensures) (x .result) (x .ensures) (c .count-refs .result) (c .count-refs .ensures) (c .before .if1 .taken)
 
 fill-requires : tie.Need-fill-requires
 fill-requires c κs =
@@ -46,7 +46,7 @@ fill-requires c κs =
     let en = c .before .before .before .before .before .before .before .before .before .events-w in
     let ord = c .before .before .before .before .before .before .before .before .order-keys in
     let x = c .before .before .before .before .before .head in
-    fillable (a .args .k) (a .args .floats .now) (a .args .words .now) (a .args .n) (a .args .total) (a .pre) (ord .last .1 .0) (at .result) (en .result) (at .ensures) (en .ensures) (ord .ensures) (x .result) (x .ensures) (c .before .before .if1 .left) (not-many (a .args .k) (a .args .floats .now) (a .args .words .now) (a .args .n) (a .args .total) (a .pre) (ord .last .1 .0) (at .result) (en .result) (at .ensures) (en .ensures) (ord .ensures) (x .result) (x .ensures) (c .before .if2 .taken))
+    fillable (a .args .mode) (a .args .k) (a .args .floats .now) (a .args .words .now) (a .args .n) (a .args .total) (a .pre) (ord .last .1 .0) (at .result) (en .result) (at .ensures) (en .ensures) (ord .ensures) (x .result) (x .ensures) (c .before .before .if1 .left) (not-many (a .args .mode) (a .args .k) (a .args .floats .now) (a .args .words .now) (a .args .n) (a .args .total) (a .pre) (ord .last .1 .0) (at .result) (en .result) (at .ensures) (en .ensures) (ord .ensures) (x .result) (x .ensures) (c .before .if2 .taken))
 
 same-length-2 : tie.Need-same-length-2
 same-length-2 c = search needs
@@ -58,7 +58,7 @@ returns-2 c =
     let en = c .before .before .before .before .before .before .before .before .before .before .before .before .events-w in
     let ord = c .before .before .before .before .before .before .before .before .before .before .before .order-keys in
     let x = c .before .before .before .before .before .before .before .before .head in
-    done (a .args .k) (a .args .floats .now) (a .args .words .now) (a .args .n) (a .args .total) (a .pre) (ord .last .1 .0) (at .result) (en .result) (at .ensures) (en .ensures) (ord .ensures) (x .result) (x .ensures) (c .before .before .before .before .before .if1 .left) (c .before .before .fill .result) (c .before .before .fill .last .1 .1 .1 .1 .1 .0) (c .before .before .fill .ensures)
+    done (a .args .mode) (a .args .k) (a .args .floats .now) (a .args .words .now) (a .args .n) (a .args .total) (a .pre) (ord .last .1 .0) (at .result) (en .result) (at .ensures) (en .ensures) (ord .ensures) (x .result) (x .ensures) (c .before .before .before .before .before .if1 .left) (c .before .before .fill .result) (c .before .before .fill .last .1 .1 .1 .1 .1 .0) (c .before .before .fill .ensures)
 
 count-refs-requires-2 : tie.Need-count-refs-requires-2
 count-refs-requires-2 c κs =
@@ -67,7 +67,7 @@ count-refs-requires-2 c κs =
     let en = c .before .before .before .before .before .before .before .before .events-w in
     let ord = c .before .before .before .before .before .before .before .order-keys in
     let x = c .before .before .before .before .head in
-    let f = some-few (a .args .k) (a .args .floats .now) (a .args .words .now) (a .args .n) (a .args .total) (a .pre) (ord .last .1 .0) (at .result) (en .result) (at .ensures) (en .ensures) (ord .ensures) (x .result) (x .ensures) in
+    let f = some-few (a .args .mode) (a .args .k) (a .args .floats .now) (a .args .words .now) (a .args .n) (a .args .total) (a .pre) (ord .last .1 .0) (at .result) (en .result) (at .ensures) (en .ensures) (ord .ensures) (x .result) (x .ensures) in
     (f .0, f .1, omega (arith, a .pre .held))
 
 wide-requires : tie.Need-wide-requires
@@ -83,7 +83,7 @@ returns-3 c =
     let en = c .before .before .before .before .before .before .before .before .before .before .before .events-w in
     let ord = c .before .before .before .before .before .before .before .before .before .before .order-keys in
     let x = c .before .before .before .before .before .before .before .head in
-    over-refs (a .args .k) (a .args .floats .now) (a .args .words .now) (a .args .n) (a .args .total) (a .pre) (ord .last .1 .0) (at .result) (en .result) (at .ensures) (en .ensures) (ord .ensures) (x .result) (x .ensures) (c .before .before .count-refs2 .result) (c .before .before .count-refs2 .ensures) (c .before .before .before .before .if1 .left) (omega (arith, c .if3 .taken, c .before .wide .ensures))
+    over-refs (a .args .mode) (a .args .k) (a .args .floats .now) (a .args .words .now) (a .args .n) (a .args .total) (a .pre) (ord .last .1 .0) (at .result) (en .result) (at .ensures) (en .ensures) (ord .ensures) (x .result) (x .ensures) (c .before .before .count-refs2 .result) (c .before .before .count-refs2 .ensures) (c .before .before .before .before .if1 .left) (omega (arith, c .if3 .taken, c .before .wide .ensures))
 
 fill-requires-2 : tie.Need-fill-requires-2
 fill-requires-2 c κs =
@@ -92,7 +92,7 @@ fill-requires-2 c κs =
     let en = c .before .before .before .before .before .before .before .before .before .before .before .before .events-w in
     let ord = c .before .before .before .before .before .before .before .before .before .before .before .order-keys in
     let x = c .before .before .before .before .before .before .before .before .head in
-    fillable (a .args .k) (a .args .floats .now) (a .args .words .now) (a .args .n) (a .args .total) (a .pre) (ord .last .1 .0) (at .result) (en .result) (at .ensures) (en .ensures) (ord .ensures) (x .result) (x .ensures) (c .before .before .before .before .before .if1 .left) (omega (arith, c .before .if3 .left, c .before .before .wide .ensures, c .before .before .before .count-refs2 .ensures, c .before .before .before .before .before .before .before .struct-known .given, c .before .before .before .before .before .before .struct-known2 .given))
+    fillable (a .args .mode) (a .args .k) (a .args .floats .now) (a .args .words .now) (a .args .n) (a .args .total) (a .pre) (ord .last .1 .0) (at .result) (en .result) (at .ensures) (en .ensures) (ord .ensures) (x .result) (x .ensures) (c .before .before .before .before .before .if1 .left) (omega (arith, c .before .if3 .left, c .before .before .wide .ensures, c .before .before .before .count-refs2 .ensures, c .before .before .before .before .before .before .before .struct-known .given, c .before .before .before .before .before .before .struct-known2 .given))
 
 same-length-4 : tie.Need-same-length-4
 same-length-4 c = search needs
@@ -104,7 +104,7 @@ returns-4 c =
     let en = c .before .before .before .before .before .before .before .before .before .before .before .before .before .before .before .events-w in
     let ord = c .before .before .before .before .before .before .before .before .before .before .before .before .before .before .order-keys in
     let x = c .before .before .before .before .before .before .before .before .before .before .before .head in
-    done (a .args .k) (a .args .floats .now) (a .args .words .now) (a .args .n) (a .args .total) (a .pre) (ord .last .1 .0) (at .result) (en .result) (at .ensures) (en .ensures) (ord .ensures) (x .result) (x .ensures) (c .before .before .before .before .before .before .before .before .if1 .left) (c .before .before .fill2 .result) (c .before .before .fill2 .last .1 .1 .1 .1 .1 .0) (c .before .before .fill2 .ensures)
+    done (a .args .mode) (a .args .k) (a .args .floats .now) (a .args .words .now) (a .args .n) (a .args .total) (a .pre) (ord .last .1 .0) (at .result) (en .result) (at .ensures) (en .ensures) (ord .ensures) (x .result) (x .ensures) (c .before .before .before .before .before .before .before .before .if1 .left) (c .before .before .fill2 .result) (c .before .before .fill2 .last .1 .1 .1 .1 .1 .0) (c .before .before .fill2 .ensures)
 
 pub build-spec : {M : Type 1} → statement M
 build-spec =

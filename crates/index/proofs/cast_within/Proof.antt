@@ -1,86 +1,23 @@
--- `cast_within`: no bucket, or what the walk of one gives. Assumes nothing.
+-- `cast_within`: the best of the walk, or none. Assumes nothing.
 use mathlib.Core.Path.{_∙_}
-use native.Mathlib.Omega.{arith}
-use Rattle.index.proofs.Casts.{cast-hit, cast-miss, cast-none, cast-some}
+use Rattle.index.proofs.Casts.{cast-hit, cast-miss, cast-is}
 use borrow.Author.Needs.{needs}
 use Rattle.index.proofs.cast_within.Statement.{statement}
 use Rattle.index.proofs.cast_within.Tie as tie
 
+walk-at-requires : tie.Need-walk-at-requires
+walk-at-requires c κs = search needs
+
 returns : tie.Need-returns
-returns c =
-    let a = c .before .before .before .before .args in
-    cast-none (a .slack) (a .k) (a .x) (a .floats .now) (a .words .now) (a .o) (a .angle) (a .dir) (a .max) (c .if1 .taken)
-
-starts-w-requires : tie.Need-starts-w-requires
-starts-w-requires c κs = search needs
-
-turned-requires : tie.Need-turned-requires
-turned-requires c κs = search needs
-
-max-requires : tie.Need-max-requires
-max-requires c κs = search needs
-
-bucket-requires : tie.Need-bucket-requires
-bucket-requires c κs = search needs
-
-add-at : tie.Need-add-at
-add-at c = search needs
-
-refs-w-requires : tie.Need-refs-w-requires
-refs-w-requires c κs = search needs
-
-at32-requires : tie.Need-at32-requires
-at32-requires c κs = search needs
-
-wide-requires : tie.Need-wide-requires
-wide-requires c κs = search needs
-
-add-from : tie.Need-add-from
-add-from c = search needs
-
-add-at32 : tie.Need-add-at32
-add-at32 c = search needs
-
-at32-requires-2 : tie.Need-at32-requires-2
-at32-requires-2 c κs = search needs
-
-wide-requires-2 : tie.Need-wide-requires-2
-wide-requires-2 c κs = search needs
-
-add-to : tie.Need-add-to
-add-to c = search needs
-
-walk-requires : tie.Need-walk-requires
-walk-requires c κs = search needs
+returns c = let a = c .before .before .before .before .before .args in cast-hit (c .before .before .walk-at .result .best) (c .if1 .taken) ∙ cast-is (a .slack) (a .k) (a .x) (a .floats .now) (a .words .now) (a .o) (a .angle) (a .dir) (a .max) _ _ _ (c .before .before .walk-at .ensures)
 
 returns-2 : tie.Need-returns-2
-returns-2 c =
-    let a = c .before .before .before .before .before .before .before .before .before .before .before .before .before .before .before .args in
-    cast-hit _ (c .if2 .taken) ∙ cast-some (a .slack) (a .k) (a .x) (a .floats .now) (a .words .now) (a .o) (a .angle) (a .dir) (a .max) (omega arith) (c .before .before .before .before .before .before .before .before .before .turned .ensures) (c .before .before .before .before .before .before .before .before .max .ensures) (c .before .before .before .before .before .before .before .bucket .ensures .0) (c .before .before .before .before .before .before .before .before .before .before .starts-w .ensures) (c .before .before .before .before .before .before .refs-w .ensures) (c .before .before .before .before .before .at32 .ensures) (c .before .before .before .before .wide .ensures) (c .before .before .before .at322 .ensures) (c .before .before .wide2 .ensures) (c .before .walk .ensures)
-
-returns-3 : tie.Need-returns-3
-returns-3 c =
-    let a = c .before .before .before .before .before .before .before .before .before .before .before .before .before .before .before .args in
-    cast-miss _ (c .if2 .left) ∙ cast-some (a .slack) (a .k) (a .x) (a .floats .now) (a .words .now) (a .o) (a .angle) (a .dir) (a .max) (omega arith) (c .before .before .before .before .before .before .before .before .before .turned .ensures) (c .before .before .before .before .before .before .before .before .max .ensures) (c .before .before .before .before .before .before .before .bucket .ensures .0) (c .before .before .before .before .before .before .before .before .before .before .starts-w .ensures) (c .before .before .before .before .before .before .refs-w .ensures) (c .before .before .before .before .before .at32 .ensures) (c .before .before .before .before .wide .ensures) (c .before .before .before .at322 .ensures) (c .before .before .wide2 .ensures) (c .before .walk .ensures)
+returns-2 c = let a = c .before .before .before .before .before .args in cast-miss (c .before .before .walk-at .result .best) (c .if1 .left) ∙ cast-is (a .slack) (a .k) (a .x) (a .floats .now) (a .words .now) (a .o) (a .angle) (a .dir) (a .max) _ _ _ (c .before .before .walk-at .ensures)
 
 pub cast-within-spec : {M : Type 1} → statement M
 cast-within-spec =
     tie.close
     (tie.spec
+    walk-at-requires
     returns
-    starts-w-requires
-    turned-requires
-    max-requires
-    bucket-requires
-    add-at
-    refs-w-requires
-    at32-requires
-    wide-requires
-    add-from
-    add-at32
-    at32-requires-2
-    wide-requires-2
-    add-to
-    walk-requires
-    returns-2
-    returns-3)
+    returns-2)

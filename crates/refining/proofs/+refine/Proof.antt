@@ -9,9 +9,9 @@ use borrow.Fn.PlainCycle.{Measures, is, falls, and}
 use Rattle.refining.proofs.refine.Reads as refine
 use Rattle.refining.proofs.refine.Kinds as refine-kinds
 use Rattle.refining.proofs.+refine.Lts-refine as refine-lts
-use Rattle.outline.proofs.own.Reads as own-reads
 use Rattle.outline.proofs.push.Reads as push-reads
 use Rattle.refining.proofs.counted.Reads as counted-reads
+use Rattle.refining.proofs.credit_at.Reads as credit-at-reads
 use Rattle.refining.proofs.turn_at.Reads as turn-at-reads
 use Rattle.refining.proofs.+refine.{statement}
 use Rattle.refining.proofs.+refine.Tie.{close}
@@ -32,8 +32,8 @@ refine-returns : (t : ℕ) → refine-lts.Need-returns (
   counted-reads.Learnt,
   push-reads.Asked,
   push-reads.Learnt,
-  own-reads.Asked,
-  own-reads.Learnt,
+  credit-at-reads.Asked,
+  credit-at-reads.Learnt,
   refine-below t,
   refine.Post,
 ) (refine-at t) refine.Post
@@ -46,8 +46,8 @@ refine-returns-2 : (t : ℕ) → refine-lts.Need-returns-2 (
   counted-reads.Learnt,
   push-reads.Asked,
   push-reads.Learnt,
-  own-reads.Asked,
-  own-reads.Learnt,
+  credit-at-reads.Asked,
+  credit-at-reads.Learnt,
   refine-below t,
   refine.Post,
 ) (refine-at t) refine.Post
@@ -60,8 +60,8 @@ refine-turn-at-requires : (t : ℕ) → refine-lts.Need-turn-at-requires (
   counted-reads.Learnt,
   push-reads.Asked,
   push-reads.Learnt,
-  own-reads.Asked,
-  own-reads.Learnt,
+  credit-at-reads.Asked,
+  credit-at-reads.Learnt,
   refine-below t,
   refine.Post,
 ) (refine-at t) refine.Post
@@ -74,8 +74,8 @@ refine-enum-told : (t : ℕ) → refine-lts.Need-enum-told (
   counted-reads.Learnt,
   push-reads.Asked,
   push-reads.Learnt,
-  own-reads.Asked,
-  own-reads.Learnt,
+  credit-at-reads.Asked,
+  credit-at-reads.Learnt,
   refine-below t,
   refine.Post,
 ) (refine-at t) refine.Post
@@ -88,8 +88,8 @@ refine-enum-known-t : (t : ℕ) → refine-lts.Need-enum-known-t (
   counted-reads.Learnt,
   push-reads.Asked,
   push-reads.Learnt,
-  own-reads.Asked,
-  own-reads.Learnt,
+  credit-at-reads.Asked,
+  credit-at-reads.Learnt,
   refine-below t,
   refine.Post,
 ) (refine-at t) refine.Post
@@ -102,8 +102,8 @@ refine-counted-requires : (t : ℕ) → refine-lts.Need-counted-requires (
   counted-reads.Learnt,
   push-reads.Asked,
   push-reads.Learnt,
-  own-reads.Asked,
-  own-reads.Learnt,
+  credit-at-reads.Asked,
+  credit-at-reads.Learnt,
   refine-below t,
   refine.Post,
 ) (refine-at t) refine.Post
@@ -116,8 +116,8 @@ refine-push-requires : (t : ℕ) → refine-lts.Need-push-requires (
   counted-reads.Learnt,
   push-reads.Asked,
   push-reads.Learnt,
-  own-reads.Asked,
-  own-reads.Learnt,
+  credit-at-reads.Asked,
+  credit-at-reads.Learnt,
   refine-below t,
   refine.Post,
 ) (refine-at t) refine.Post
@@ -130,8 +130,8 @@ refine-enum-known-t-2 : (t : ℕ) → refine-lts.Need-enum-known-t-2 (
   counted-reads.Learnt,
   push-reads.Asked,
   push-reads.Learnt,
-  own-reads.Asked,
-  own-reads.Learnt,
+  credit-at-reads.Asked,
+  credit-at-reads.Learnt,
   refine-below t,
   refine.Post,
 ) (refine-at t) refine.Post
@@ -144,26 +144,26 @@ refine-counted-requires-2 : (t : ℕ) → refine-lts.Need-counted-requires-2 (
   counted-reads.Learnt,
   push-reads.Asked,
   push-reads.Learnt,
-  own-reads.Asked,
-  own-reads.Learnt,
+  credit-at-reads.Asked,
+  credit-at-reads.Learnt,
   refine-below t,
   refine.Post,
 ) (refine-at t) refine.Post
 refine-counted-requires-2 t c κs = ready-count (c .before .before .before .before .before .before .before .before .before .before .before .before .before .before .before .pre .1)
 
-refine-own-requires : (t : ℕ) → refine-lts.Need-own-requires (
+refine-credit-at-requires : (t : ℕ) → refine-lts.Need-credit-at-requires (
   turn-at-reads.Asked,
   turn-at-reads.Learnt,
   counted-reads.Asked,
   counted-reads.Learnt,
   push-reads.Asked,
   push-reads.Learnt,
-  own-reads.Asked,
-  own-reads.Learnt,
+  credit-at-reads.Asked,
+  credit-at-reads.Learnt,
   refine-below t,
   refine.Post,
 ) (refine-at t) refine.Post
-refine-own-requires t c κs = ready-own (c .before .before .before .before .before .before .before .before .before .before .before .before .before .before .before .before .pre .1) (c .counted2 .ensures)
+refine-credit-at-requires t c κs = ready-own (c .before .before .before .before .before .before .before .before .before .before .before .before .before .before .before .before .pre .1) (c .counted2 .ensures)
 
 refine-add-refine : (t : ℕ) → refine-lts.Need-add-refine (
   turn-at-reads.Asked,
@@ -172,8 +172,8 @@ refine-add-refine : (t : ℕ) → refine-lts.Need-add-refine (
   counted-reads.Learnt,
   push-reads.Asked,
   push-reads.Learnt,
-  own-reads.Asked,
-  own-reads.Learnt,
+  credit-at-reads.Asked,
+  credit-at-reads.Learnt,
   refine-below t,
   refine.Post,
 ) (refine-at t) refine.Post
@@ -186,12 +186,12 @@ refine-refine-requires : (t : ℕ) → refine-lts.Need-refine-requires (
   counted-reads.Learnt,
   push-reads.Asked,
   push-reads.Learnt,
-  own-reads.Asked,
-  own-reads.Learnt,
+  credit-at-reads.Asked,
+  credit-at-reads.Learnt,
   refine-below t,
   refine.Post,
 ) (refine-at t) refine.Post
-refine-refine-requires t c κs = (fall _ _ (c .before .before .before .before .before .before .before .before .before .before .before .before .before .if1 .left) (c .before .before .before .before .before .before .before .before .before .before .before .before .before .before .before .before .before .before .before .before .before .pre .0), ready-left (c .before .before .before .before .before .before .before .before .before .before .before .before .before .before .before .before .before .before .before .before .before .pre .1) (c .before .before .before .before .before .counted2 .ensures) (c .before .before .before .before .before .before .before .before .before .before .before .before .if2 .left) (c .before .before .before .before .own .ensures .1))
+refine-refine-requires t c κs = (fall _ _ (c .before .before .before .before .before .before .before .before .before .before .before .before .before .if1 .left) (c .before .before .before .before .before .before .before .before .before .before .before .before .before .before .before .before .before .before .before .before .before .pre .0), ready-left (c .before .before .before .before .before .before .before .before .before .before .before .before .before .before .before .before .before .before .before .before .before .pre .1) (c .before .before .before .before .before .counted2 .ensures) (c .before .before .before .before .before .before .before .before .before .before .before .before .if2 .left) (c .before .before .before .before .credit-at .ensures .1))
 
 refine-push-requires-2 : (t : ℕ) → refine-lts.Need-push-requires-2 (
   turn-at-reads.Asked,
@@ -200,12 +200,12 @@ refine-push-requires-2 : (t : ℕ) → refine-lts.Need-push-requires-2 (
   counted-reads.Learnt,
   push-reads.Asked,
   push-reads.Learnt,
-  own-reads.Asked,
-  own-reads.Learnt,
+  credit-at-reads.Asked,
+  credit-at-reads.Learnt,
   refine-below t,
   refine.Post,
 ) (refine-at t) refine.Post
-refine-push-requires-2 t c κs = push-right (c .before .before .before .before .before .before .before .before .before .before .before .before .before .before .before .before .before .before .before .before .before .before .before .before .before .before .before .pre .1) (c .before .before .before .before .before .before .before .before .before .before .before .counted2 .ensures) (c .before .before .before .before .before .before .before .before .before .before .before .before .before .before .before .before .before .before .if2 .left) (c .before .before .before .before .before .before .before .before .before .before .own .ensures .1) (c .before .before .before .before .before .refine .ensures .1) (c .before .before .before .before .before .refine .kept .1 .1 .1 .1 .1 .1 .1 .0)
+refine-push-requires-2 t c κs = push-right (c .before .before .before .before .before .before .before .before .before .before .before .before .before .before .before .before .before .before .before .before .before .before .before .before .before .before .before .pre .1) (c .before .before .before .before .before .before .before .before .before .before .before .counted2 .ensures) (c .before .before .before .before .before .before .before .before .before .before .before .before .before .before .before .before .before .before .if2 .left) (c .before .before .before .before .before .before .before .before .before .before .credit-at .ensures .1) (c .before .before .before .before .before .refine .ensures .1) (c .before .before .before .before .before .refine .kept .1 .1 .1 .1 .1 .1 .1 .0)
 
 refine-add-refine-2 : (t : ℕ) → refine-lts.Need-add-refine-2 (
   turn-at-reads.Asked,
@@ -214,8 +214,8 @@ refine-add-refine-2 : (t : ℕ) → refine-lts.Need-add-refine-2 (
   counted-reads.Learnt,
   push-reads.Asked,
   push-reads.Learnt,
-  own-reads.Asked,
-  own-reads.Learnt,
+  credit-at-reads.Asked,
+  credit-at-reads.Learnt,
   refine-below t,
   refine.Post,
 ) (refine-at t) refine.Post
@@ -228,12 +228,12 @@ refine-refine-requires-2 : (t : ℕ) → refine-lts.Need-refine-requires-2 (
   counted-reads.Learnt,
   push-reads.Asked,
   push-reads.Learnt,
-  own-reads.Asked,
-  own-reads.Learnt,
+  credit-at-reads.Asked,
+  credit-at-reads.Learnt,
   refine-below t,
   refine.Post,
 ) (refine-at t) refine.Post
-refine-refine-requires-2 t c κs = (fall _ _ (c .before .before .before .before .before .before .before .before .before .before .before .before .before .before .before .before .before .before .before .before .before .before .before .before .if1 .left) (c .before .before .before .before .before .before .before .before .before .before .before .before .before .before .before .before .before .before .before .before .before .before .before .before .before .before .before .before .before .before .before .before .pre .0), ready-right (c .before .before .before .before .before .before .before .before .before .before .before .before .before .before .before .before .before .before .before .before .before .before .before .before .before .before .before .before .before .before .before .before .pre .1) (c .before .before .before .before .before .before .before .before .before .before .before .before .before .before .before .before .counted2 .ensures) (c .before .before .before .before .before .before .before .before .before .before .before .before .before .before .before .before .before .before .before .before .before .before .before .if2 .left) (c .before .before .before .before .before .before .before .before .before .before .before .before .before .before .before .own .ensures .1) (c .before .before .before .before .before .before .before .before .before .before .refine .ensures .1) (c .before .before .before .before .before .before .before .before .before .before .refine .kept .1 .1 .1 .1 .1 .1 .1 .0) (c .before .before .before .before .push2 .ensures .1) (c .before .before .before .before .push2 .kept .0))
+refine-refine-requires-2 t c κs = (fall _ _ (c .before .before .before .before .before .before .before .before .before .before .before .before .before .before .before .before .before .before .before .before .before .before .before .before .if1 .left) (c .before .before .before .before .before .before .before .before .before .before .before .before .before .before .before .before .before .before .before .before .before .before .before .before .before .before .before .before .before .before .before .before .pre .0), ready-right (c .before .before .before .before .before .before .before .before .before .before .before .before .before .before .before .before .before .before .before .before .before .before .before .before .before .before .before .before .before .before .before .before .pre .1) (c .before .before .before .before .before .before .before .before .before .before .before .before .before .before .before .before .counted2 .ensures) (c .before .before .before .before .before .before .before .before .before .before .before .before .before .before .before .before .before .before .before .before .before .before .before .if2 .left) (c .before .before .before .before .before .before .before .before .before .before .before .before .before .before .before .credit-at .ensures .1) (c .before .before .before .before .before .before .before .before .before .before .refine .ensures .1) (c .before .before .before .before .before .before .before .before .before .before .refine .kept .1 .1 .1 .1 .1 .1 .1 .0) (c .before .before .before .before .push2 .ensures .1) (c .before .before .before .before .push2 .kept .0))
 
 refine-returns-3 : (t : ℕ) → refine-lts.Need-returns-3 (
   turn-at-reads.Asked,
@@ -242,8 +242,8 @@ refine-returns-3 : (t : ℕ) → refine-lts.Need-returns-3 (
   counted-reads.Learnt,
   push-reads.Asked,
   push-reads.Learnt,
-  own-reads.Asked,
-  own-reads.Learnt,
+  credit-at-reads.Asked,
+  credit-at-reads.Learnt,
   refine-below t,
   refine.Post,
 ) (refine-at t) refine.Post
@@ -256,8 +256,8 @@ refine-same-length : (t : ℕ) → refine-lts.Need-same-length (
   counted-reads.Learnt,
   push-reads.Asked,
   push-reads.Learnt,
-  own-reads.Asked,
-  own-reads.Learnt,
+  credit-at-reads.Asked,
+  credit-at-reads.Learnt,
   refine-below t,
   refine.Post,
 ) (refine-at t) refine.Post
@@ -270,8 +270,8 @@ refine-returns-4 : (t : ℕ) → refine-lts.Need-returns-4 (
   counted-reads.Learnt,
   push-reads.Asked,
   push-reads.Learnt,
-  own-reads.Asked,
-  own-reads.Learnt,
+  credit-at-reads.Asked,
+  credit-at-reads.Learnt,
   refine-below t,
   refine.Post,
 ) (refine-at t) refine.Post
@@ -284,8 +284,8 @@ refine-same-length-2 : (t : ℕ) → refine-lts.Need-same-length-2 (
   counted-reads.Learnt,
   push-reads.Asked,
   push-reads.Learnt,
-  own-reads.Asked,
-  own-reads.Learnt,
+  credit-at-reads.Asked,
+  credit-at-reads.Learnt,
   refine-below t,
   refine.Post,
 ) (refine-at t) refine.Post
@@ -298,12 +298,12 @@ refine-same-length-3 : (t : ℕ) → refine-lts.Need-same-length-3 (
   counted-reads.Learnt,
   push-reads.Asked,
   push-reads.Learnt,
-  own-reads.Asked,
-  own-reads.Learnt,
+  credit-at-reads.Asked,
+  credit-at-reads.Learnt,
   refine-below t,
   refine.Post,
 ) (refine-at t) refine.Post
-refine-same-length-3 t c = c .before .before .before .before .refine2 .kept .1 .1 .1 .1 .1 .1 .1 .1 .0 ∙ c .before .before .before .before .before .before .before .before .before .before .before .before .before .before .before .refine .kept .1 .1 .1 .1 .1 .1 .1 .1 .0 ∙ c .before .before .before .before .before .before .before .before .before .before .before .before .before .before .before .before .before .before .before .before .own .kept .1 .1 .0
+refine-same-length-3 t c = c .before .before .before .before .refine2 .kept .1 .1 .1 .1 .1 .1 .1 .1 .0 ∙ c .before .before .before .before .before .before .before .before .before .before .before .before .before .before .before .refine .kept .1 .1 .1 .1 .1 .1 .1 .1 .0 ∙ c .before .before .before .before .before .before .before .before .before .before .before .before .before .before .before .before .before .before .before .before .credit-at .kept .1 .1 .1 .1 .1 .0
 
 refine-returns-5 : (t : ℕ) → refine-lts.Need-returns-5 (
   turn-at-reads.Asked,
@@ -312,12 +312,12 @@ refine-returns-5 : (t : ℕ) → refine-lts.Need-returns-5 (
   counted-reads.Learnt,
   push-reads.Asked,
   push-reads.Learnt,
-  own-reads.Asked,
-  own-reads.Learnt,
+  credit-at-reads.Asked,
+  credit-at-reads.Learnt,
   refine-below t,
   refine.Post,
 ) (refine-at t) refine.Post
-refine-returns-5 t c = (ref-both _ _ _ _ _ _ _ (c .before .before .before .before .before .before .before .before .before .before .before .before .before .before .before .before .before .before .before .before .before .before .before .before .before .before .before .before .before .if1 .left) (c .before .before .before .before .before .before .before .before .before .before .before .before .before .before .before .before .before .before .before .before .before .before .before .before .before .before .before .before .if2 .left) (c .before .before .before .before .before .before .before .before .before .before .before .before .before .before .before .before .before .before .before .before .before .before .before .before .before .before .turn-at .ensures) (c .before .before .before .before .before .before .before .before .before .before .before .before .before .before .before .before .before .before .before .before .before .counted2 .ensures) (c .before .before .before .before .before .before .before .before .before .before .before .before .before .before .before .before .before .before .before .before .before .before .before .before .t2 .given .1) (c .before .before .before .before .before .before .before .before .before .before .before .before .before .before .before .before .before .before .before .before .own .ensures .0) (c .before .before .before .before .before .before .before .before .before .before .before .before .before .before .before .refine .ensures .0) (c .before .before .before .before .before .before .before .before .before .push2 .ensures .0) (c .before .before .before .before .refine2 .ensures .0), done-both (c .before .before .before .before .before .before .before .before .before .before .before .before .before .before .before .before .before .before .before .before .before .before .before .before .before .before .before .before .before .before .before .before .before .before .before .before .before .pre .1) (c .before .before .before .before .before .before .before .before .before .before .before .before .before .before .before .before .before .before .before .before .before .counted2 .ensures) (c .before .before .before .before .before .before .before .before .before .before .before .before .before .before .before .before .before .before .before .before .before .before .before .before .before .before .before .before .if2 .left) (c .before .before .before .before .before .before .before .before .before .before .before .before .before .before .before .before .before .before .before .before .own .ensures .1) (c .before .before .before .before .before .before .before .before .before .before .before .before .before .before .before .refine .ensures .1) (c .before .before .before .before .before .before .before .before .before .before .before .before .before .before .before .refine .kept .1 .1 .1 .1 .1 .1 .1 .0) (c .before .before .before .before .before .before .before .before .before .push2 .ensures .1) (c .before .before .before .before .before .before .before .before .before .push2 .kept .0) (c .before .before .before .before .refine2 .ensures .1))
+refine-returns-5 t c = (ref-both _ _ _ _ _ _ _ (c .before .before .before .before .before .before .before .before .before .before .before .before .before .before .before .before .before .before .before .before .before .before .before .before .before .before .before .before .before .if1 .left) (c .before .before .before .before .before .before .before .before .before .before .before .before .before .before .before .before .before .before .before .before .before .before .before .before .before .before .before .before .if2 .left) (c .before .before .before .before .before .before .before .before .before .before .before .before .before .before .before .before .before .before .before .before .before .before .before .before .before .before .turn-at .ensures) (c .before .before .before .before .before .before .before .before .before .before .before .before .before .before .before .before .before .before .before .before .before .counted2 .ensures) (c .before .before .before .before .before .before .before .before .before .before .before .before .before .before .before .before .before .before .before .before .before .before .before .before .t2 .given .1) (c .before .before .before .before .before .before .before .before .before .before .before .before .before .before .before .before .before .before .before .before .credit-at .ensures .0) (c .before .before .before .before .before .before .before .before .before .before .before .before .before .before .before .refine .ensures .0) (c .before .before .before .before .before .before .before .before .before .push2 .ensures .0) (c .before .before .before .before .refine2 .ensures .0), done-both (c .before .before .before .before .before .before .before .before .before .before .before .before .before .before .before .before .before .before .before .before .before .before .before .before .before .before .before .before .before .before .before .before .before .before .before .before .before .pre .1) (c .before .before .before .before .before .before .before .before .before .before .before .before .before .before .before .before .before .before .before .before .before .counted2 .ensures) (c .before .before .before .before .before .before .before .before .before .before .before .before .before .before .before .before .before .before .before .before .before .before .before .before .before .before .before .before .if2 .left) (c .before .before .before .before .before .before .before .before .before .before .before .before .before .before .before .before .before .before .before .before .credit-at .ensures .1) (c .before .before .before .before .before .before .before .before .before .before .before .before .before .before .before .refine .ensures .1) (c .before .before .before .before .before .before .before .before .before .before .before .before .before .before .before .refine .kept .1 .1 .1 .1 .1 .1 .1 .0) (c .before .before .before .before .before .before .before .before .before .push2 .ensures .1) (c .before .before .before .before .before .before .before .before .before .push2 .kept .0) (c .before .before .before .before .refine2 .ensures .1))
 
 pub +refine-spec : {M : Type 1} → statement M
 +refine-spec = close μ-refine λ t. refine-lts.spec (
@@ -327,8 +327,8 @@ pub +refine-spec : {M : Type 1} → statement M
   counted-reads.Learnt,
   push-reads.Asked,
   push-reads.Learnt,
-  own-reads.Asked,
-  own-reads.Learnt,
+  credit-at-reads.Asked,
+  credit-at-reads.Learnt,
   refine-below t,
   refine.Post,
 )
@@ -343,7 +343,7 @@ pub +refine-spec : {M : Type 1} → statement M
     (refine-push-requires t)
     (refine-enum-known-t-2 t)
     (refine-counted-requires-2 t)
-    (refine-own-requires t)
+    (refine-credit-at-requires t)
     (refine-add-refine t)
     (refine-refine-requires t)
     (refine-push-requires-2 t)

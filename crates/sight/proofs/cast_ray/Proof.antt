@@ -19,13 +19,13 @@ look-along-requires : tie.Need-look-along-requires
 look-along-requires c κs = start-in _ _ _ _ _ _ (sym (c .before .before .before .traverse-ray .ensures) ∙ c .before .s .given .1) .on-grid
 
 returns : tie.Need-returns
-returns c = cast-from _ _ _ _ _ _ _ _ _ _ _ _ _ (sym (c .before .before .before .before .traverse-ray .ensures) ∙ c .before .before .s .given .1) (c .before .before .before .before .before .none .ensures) (c .look-along .ensures)
+returns c = cast-from _ _ _ _ _ _ _ _ _ _ _ _ _ _ (sym (c .before .before .before .before .traverse-ray .ensures) ∙ c .before .before .s .given .1) (c .before .before .before .before .before .none .ensures) (c .look-along .ensures)
 
 enum-told : tie.Need-enum-told
 enum-told c = search needs
 
 returns-2 : tie.Need-returns-2
-returns-2 c = cast-miss _ _ _ _ _ _ _ _ _ (sym (c .before .before .traverse-ray .ensures) ∙ c .enum-told .given .1)
+returns-2 c = cast-miss _ _ _ _ _ _ _ _ _ _ (sym (c .before .before .traverse-ray .ensures) ∙ c .enum-told .given .1)
 
 pub cast-ray-spec : {M : Type 1} → statement M
 cast-ray-spec =

@@ -1,5 +1,5 @@
 -- `test_edges`: after k turns the best is that of the first k edges, and the next edge starts at the corner before k. Assumes nothing.
-use Rattle.sight.specs.Casting.{edgesUpTo, edgesMet}
+use Rattle.sight.specs.Casting.{nearerOf, edgesUpTo, edgesMet}
 use Rattle.geom.specs.Ring.{cornerBefore}
 use Rattle.geom.specs.Box.{cornerOf}
 use native.Mathlib.Numerals.{add-one}
@@ -13,13 +13,13 @@ use Rattle.sight.proofs.test_edges.Statement.{statement}
 use Rattle.sight.proofs.test_edges.Tie as tie
 
 abbrev Inv-loop : tie.InvT-loop
-Inv-loop ray ring first n best₀ prev₀ a₀ k₀ best prev a k = (k ≤ n) × (best ≡ edgesUpTo ray ring first best₀ k) × (prev ≡ cornerBefore n k) × (a ≡ cornerOf ring prev)
+Inv-loop ray ring first mode n best₀ prev₀ a₀ k₀ best prev a k = (k ≤ n) × (best ≡ edgesUpTo (nearerOf mode) ray ring first best₀ k) × (prev ≡ cornerBefore n k) × (a ≡ cornerOf ring prev)
 
 abbrev μ-loop : tie.MeasureT-loop
-μ-loop ray ring first n best₀ prev₀ a₀ k₀ best prev a k = n - k
+μ-loop ray ring first mode n best₀ prev₀ a₀ k₀ best prev a k = n - k
 
 returns : tie.Need-returns Inv-loop μ-loop
-returns c = no-edges _ _ _ _ (c .if1 .taken)
+returns c = no-edges _ _ _ _ _ (c .if1 .taken)
 
 sub-prev : tie.Need-sub-prev Inv-loop μ-loop
 sub-prev c = search needs
@@ -47,11 +47,11 @@ loop-less : tie.Need-loop-less Inv-loop μ-loop
 loop-less c = search needs
 
 loop-again : tie.Need-loop-again Inv-loop μ-loop
-loop-again c = (omega arith, next-edge _ _ _ _ _ _ _ _ _ _ _ (c .before .before .before .before .loop .inv .1) (c .before .before .before .before .loop .inv .2) (c .before .before .before .before .loop .inv .3) (c .before .before .corner2 .ensures) (c .before .ray-segment .ensures) (c .nearer .ensures), simp add-one, c .before .before .corner2 .ensures)
+loop-again c = (omega arith, next-edge _ _ _ _ _ _ _ _ _ _ _ _ (c .before .before .before .before .loop .inv .1) (c .before .before .before .before .loop .inv .2) (c .before .before .before .before .loop .inv .3) (c .before .before .corner2 .ensures) (c .before .ray-segment .ensures) (c .nearer .ensures), simp add-one, c .before .before .corner2 .ensures)
 
 returns-2 : tie.Need-returns-2 Inv-loop μ-loop
 unfolding edgesMet
-returns-2 c = c .before .loop .inv .1 ∙ ap (edgesUpTo _ _ _ _) (le-antisymm (c .before .loop .inv .0) (c .loop-test .left))
+returns-2 c = c .before .loop .inv .1 ∙ ap (edgesUpTo _ _ _ _ _) (le-antisymm (c .before .loop .inv .0) (c .loop-test .left))
 
 pub test-edges-spec : {M : Type 1} → statement M
 test-edges-spec =

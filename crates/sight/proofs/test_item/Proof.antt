@@ -11,7 +11,7 @@ has-requires : tie.Need-has-requires
 has-requires c κs = search needs
 
 returns : tie.Need-returns
-returns c = item-lately _ _ _ _ _ _ _ (c .before .has .ensures) (c .if1 .taken)
+returns c = item-lately _ _ _ _ _ _ _ _ (c .before .has .ensures) (c .if1 .taken)
 
 push-requires : tie.Need-push-requires
 push-requires c κs = search needs
@@ -26,7 +26,7 @@ ray-hits-aabb-requires : tie.Need-ray-hits-aabb-requires
 ray-hits-aabb-requires c κs = search needs
 
 returns-2 : tie.Need-returns-2
-returns-2 c = item-passed _ _ _ _ _ _ _ (c .before .before .before .before .before .before .before .has .ensures) (c .before .before .before .before .before .before .if1 .left) _ (c .before .before .before .before .push .ensures) _ _ (c .before .before .box-at .ensures ∙ ap (boxAt _) (c .before .before .before .wide .ensures)) (c .before .ray-hits-aabb .ensures) (not-true _ (c .if2 .taken))
+returns-2 c = item-passed _ _ _ _ _ _ _ _ (c .before .before .before .before .before .before .before .has .ensures) (c .before .before .before .before .before .before .if1 .left) _ (c .before .before .before .before .push .ensures) _ _ (c .before .before .box-at .ensures ∙ ap (boxAt _) (c .before .before .before .wide .ensures)) (c .before .ray-hits-aabb .ensures) (not-true _ (c .if2 .taken))
 
 verts-of-requires : tie.Need-verts-of-requires
 verts-of-requires c κs = search needs
@@ -38,7 +38,7 @@ test-edges-requires : tie.Need-test-edges-requires
 test-edges-requires c κs = search needs
 
 returns-3 : tie.Need-returns-3
-returns-3 c = item-tested _ _ _ _ _ _ _ (c .before .before .before .before .before .before .before .before .before .before .has .ensures) (c .before .before .before .before .before .before .before .before .before .if1 .left) _ (c .before .before .before .before .before .before .before .push .ensures) _ _ (c .before .before .before .before .before .box-at .ensures ∙ ap (boxAt _) (c .before .before .before .before .before .before .wide .ensures)) (c .before .before .before .before .ray-hits-aabb .ensures) (not-false _ (c .before .before .before .if2 .left)) _ _ _ (c .before .before .verts-of .ensures) (c .before .first-of .ensures) (c .test-edges .ensures)
+returns-3 c = item-tested _ _ _ _ _ _ _ _ (c .before .before .before .before .before .before .before .before .before .before .has .ensures) (c .before .before .before .before .before .before .before .before .before .if1 .left) _ (c .before .before .before .before .before .before .before .push .ensures) _ _ (c .before .before .before .before .before .box-at .ensures ∙ ap (boxAt _) (c .before .before .before .before .before .before .wide .ensures)) (c .before .before .before .before .ray-hits-aabb .ensures) (not-false _ (c .before .before .before .if2 .left)) _ _ _ (c .before .before .verts-of .ensures) (c .before .first-of .ensures) (c .test-edges .ensures)
 
 pub test-item-spec : {M : Type 1} → statement M
 test-item-spec =

@@ -1,5 +1,5 @@
 -- `test_items`: what is left of the ids, from the state so far, ends as all of them do. Assumes nothing.
-use Rattle.sight.specs.Casting.{itemSeen, itemsSeen}
+use Rattle.sight.specs.Casting.{nearerOf, itemSeen, itemsSeen}
 use Rattle.lists.proofs.Folds.{fold-next, fold-end}
 use lib.ListN.{length, drop}
 use mathlib.Core.Path.{_≡_, refl, sym, _∙_}
@@ -10,10 +10,10 @@ use Rattle.sight.proofs.test_items.Statement.{statement}
 use Rattle.sight.proofs.test_items.Tie as tie
 
 abbrev Inv-loop : tie.InvT-loop
-Inv-loop ray points boxes polygons ids s₀ i₀ s i = (i ≤ length ids) × (itemsSeen ray points boxes polygons s (drop i ids) ≡ itemsSeen ray points boxes polygons s₀ ids)
+Inv-loop ray points boxes polygons ids mode s₀ i₀ s i = (i ≤ length ids) × (itemsSeen (nearerOf mode) ray points boxes polygons s (drop i ids) ≡ itemsSeen (nearerOf mode) ray points boxes polygons s₀ ids)
 
 abbrev μ-loop : tie.MeasureT-loop
-μ-loop ray points boxes polygons ids s₀ i₀ s i = length ids - i
+μ-loop ray points boxes polygons ids mode s₀ i₀ s i = length ids - i
 
 loop-holds : tie.Need-loop-holds Inv-loop μ-loop
 loop-holds c = (omega arith, refl)
@@ -35,11 +35,11 @@ loop-less c = search needs
 
 loop-again : tie.Need-loop-again Inv-loop μ-loop
 unfolding itemsSeen
-loop-again c = (omega arith, rw (c .test-item .ensures) (sym (fold-next (itemSeen _ _ _ _) _ _ 0 _ (c .before .before .loop-test .taken)) ∙ c .before .before .before .loop .inv .1))
+loop-again c = (omega arith, rw (c .test-item .ensures) (sym (fold-next (itemSeen _ _ _ _ _) _ _ 0 _ (c .before .before .loop-test .taken)) ∙ c .before .before .before .loop .inv .1))
 
 returns : tie.Need-returns Inv-loop μ-loop
 unfolding itemsSeen
-returns c = sym (fold-end (itemSeen _ _ _ _) _ _ _ (c .loop-test .left)) ∙ c .before .loop .inv .1
+returns c = sym (fold-end (itemSeen _ _ _ _ _) _ _ _ (c .loop-test .left)) ∙ c .before .loop .inv .1
 
 pub test-items-spec : {M : Type 1} → statement M
 test-items-spec =

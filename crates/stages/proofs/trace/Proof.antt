@@ -1,6 +1,6 @@
 -- `trace`: the run, and the marked polygons listed. Assumes nothing.
 use Rattle.stages.proofs.Showing.{run-from, trace-over, trace-done}
-use Rattle.stages.specs.Drawing.{noMarks}
+use Rattle.credit.specs.Credit.{noMarks}
 use native.Mathlib.Omega.{arith}
 use mathlib.Core.Path.{refl, _∙_}
 use borrow.Author.Needs.{needs}

@@ -4,7 +4,7 @@ use Rattle.lists.specs.Parts.{part}
 use Rattle.lists.proofs.Only.{only-refl}
 use Rattle.room.specs.Layout.{seenW}
 use Rattle.sweep.specs.Sweep.{courseIn}
-use Rattle.sweep.proofs.Ways.{sample-front, dir-front, next-front, visit-to, visit-last, ready-emitted, done-emitted, done-between}
+use Rattle.sweep.proofs.Ways.{sample-front, dir-front, next-front, emit-front, visit-to, visit-last, ready-emitted, done-emitted, done-between}
 use native.Mathlib.Omega.{arith}
 use borrow.Author.Needs.{needs}
 use Rattle.sweep.proofs.visit.Statement.{statement}
@@ -49,16 +49,23 @@ part-next-of-end c = omega (arith, c .before .before .before .before .before .be
 next-of-requires : tie.Need-next-of-requires
 next-of-requires c κs = c .before .before .before .before .before .before .before .before .before .before .before .before .before .before .before .before .pre .0
 
+sub-emit : tie.Need-sub-emit
+sub-emit c = omega arith
+
+part-emit-start : tie.Need-part-emit-start
+part-emit-start c = omega arith
+
+part-emit-end : tie.Need-part-emit-end
+part-emit-end c = omega (arith, c .before .before .before .before .before .before .before .before .before .before .seen-w .ensures, c .before .before .before .before .before .before .before .before .before .before .before .before .before .before .before .before .before .before .pre .1)
+
 emit-requires : tie.Need-emit-requires
-emit-requires c κs =
-    let s = c .before .before .before .before .before .before .before .before .before .before .before .before .before .before .before .before .before .before .before in
-    (s .pre .2 .points, s .pre .2 .owners, dir-front (s .args .k) (s .args .view .start) (s .args .floats .now) (s .args .words .now) (s .args .n) (s .args .i) (s .pre .3) (s .pre .0) (c .before .before .before .before .before .before .before .before .before .before .before .seen-w .ensures) (c .before .before .before .before .before .before .before .before .sample-in .ensures) (c .before .before .before .before .before .dir-in .ensures))
+emit-requires c κs = let a = c .before .before .before .before .before .before .before .before .before .before .before .before .before .before .before .before .before .before .before .before .before .args in (c .before .before .before .before .before .before .before .before .before .before .before .before .before .before .before .before .before .before .before .before .before .pre .2 .points, c .before .before .before .before .before .before .before .before .before .before .before .before .before .before .before .before .before .before .before .before .before .pre .2 .owners, dir-front (a .k) (a .view .start) (a .floats .now) (a .words .now) (a .n) (a .i) (c .before .before .before .before .before .before .before .before .before .before .before .before .before .before .before .before .before .before .before .before .before .pre .3) (c .before .before .before .before .before .before .before .before .before .before .before .before .before .before .before .before .before .before .before .before .before .pre .0) (c .before .before .before .before .before .before .before .before .before .before .before .before .before .seen-w .ensures) (c .before .before .before .before .before .before .before .before .before .before .sample-in .ensures) (c .before .before .before .before .before .before .before .dir-in .ensures))
 
 enum-known-next : tie.Need-enum-known-next
 enum-known-next c = search needs
 
 between-requires : tie.Need-between-requires
-between-requires c κs = (c .before .before .before .before .before .before .before .before .before .before .before .before .before .before .before .before .before .before .before .before .before .before .before .before .before .before .before .before .before .before .pre .1, ready-emitted (c .before .before .before .before .before .before .before .before .before .before .emit .kept .1 .0) (c .before .before .before .before .before .before .before .before .before .before .before .before .before .before .before .before .before .before .before .before .before .before .before .before .before .before .before .before .before .before .pre .2) (c .before .before .before .before .before .before .before .before .before .before .emit .ensures .1))
+between-requires c κs = (c .before .before .before .before .before .before .before .before .before .before .before .before .before .before .before .before .before .before .before .before .before .before .before .before .before .before .before .before .before .before .before .before .pre .1, ready-emitted (c .before .before .before .before .before .before .before .before .before .before .emit .kept .1 .1 .1 .1 .1 .0) (c .before .before .before .before .before .before .before .before .before .before .before .before .before .before .before .before .before .before .before .before .before .before .before .before .before .before .before .before .before .before .before .before .pre .2) (c .before .before .before .before .before .before .before .before .before .before .emit .ensures .1))
 
 enum-told : tie.Need-enum-told
 enum-told c = search needs
@@ -67,25 +74,25 @@ same-length : tie.Need-same-length
 same-length c = c .before .before .before .before .before .before .between .kept .1 .1 .1 .1 .1 .1 .0
 
 same-length-2 : tie.Need-same-length-2
-same-length-2 c = c .before .before .before .before .before .before .between .kept .1 .1 .1 .1 .1 .1 .1 .0 ∙ c .before .before .before .before .before .before .before .before .before .before .before .before .before .before .before .before .before .emit .kept .1 .0
+same-length-2 c = c .before .before .before .before .before .before .between .kept .1 .1 .1 .1 .1 .1 .1 .0 ∙ c .before .before .before .before .before .before .before .before .before .before .before .before .before .before .before .before .before .emit .kept .1 .1 .1 .1 .1 .0
 
 same-length-3 : tie.Need-same-length-3
-same-length-3 c = c .before .before .before .before .before .before .between .kept .1 .1 .1 .1 .1 .1 .1 .1 .0 ∙ c .before .before .before .before .before .before .before .before .before .before .before .before .before .before .before .before .before .emit .kept .1 .1 .0
+same-length-3 c = c .before .before .before .before .before .before .between .kept .1 .1 .1 .1 .1 .1 .1 .1 .0 ∙ c .before .before .before .before .before .before .before .before .before .before .before .before .before .before .before .before .before .emit .kept .1 .1 .1 .1 .1 .1 .0
 
 returns : tie.Need-returns
-returns c = let a = c .before .before .before .before .before .before .before .before .before .before .before .before .before .before .before .before .before .before .before .before .before .before .before .before .before .before .before .before .before .before .before .before .before .before .before .before .before .args in (visit-to (courseIn (a .k) (a .x) (a .floats .now) (part 0 (seenW (a .k)) (a .words .now)) (a .view) (a .step) (a .points .now) (a .polygons .now) (a .owners .now)) _ _ _ (sample-front (a .k) (a .floats .now) (a .words .now) (a .i) (c .before .before .before .before .before .before .before .before .before .before .before .before .before .before .before .before .before .before .before .before .before .before .before .before .before .before .before .before .before .seen-w .ensures) (c .before .before .before .before .before .before .before .before .before .before .before .before .before .before .before .before .before .before .before .before .before .before .before .before .before .before .sample-in .ensures)) (next-front (a .k) (a .floats .now) (a .words .now) (a .view .full) (a .n) (a .i) (c .before .before .before .before .before .before .before .before .before .before .before .before .before .before .before .before .before .before .before .before .before .before .before .before .before .before .before .before .before .seen-w .ensures) (c .before .before .before .before .before .before .before .before .before .before .before .before .before .before .before .before .before .before .before .before .next-of .ensures)) (c .before .before .before .before .before .before .before .before .before .before .before .before .before .before .before .before .before .emit .ensures .0) (c .before .before .before .before .before .before .before .before .before .before .before .next .given .1) (c .before .before .before .before .before .before .between .ensures .0), (done-between (c .before .before .before .before .before .before .before .before .before .before .before .before .before .before .before .before .before .emit .kept .1 .0) (c .before .before .before .before .before .before .before .before .before .before .before .before .before .before .before .before .before .emit .ensures .1) (c .before .before .before .before .before .before .between .ensures .1 .0), c .before .before .before .before .before .before .between .ensures .1 .1))
+returns c = let a = c .before .before .before .before .before .before .before .before .before .before .before .before .before .before .before .before .before .before .before .before .before .before .before .before .before .before .before .before .before .before .before .before .before .before .before .before .before .before .before .args in (visit-to (courseIn (a .k) (a .x) (a .floats .now) (part 0 (seenW (a .k)) (a .words .now)) (a .view) (a .step) (a .points .now) (a .polygons .now) (a .owners .now)) _ _ _ (sample-front (a .k) (a .floats .now) (a .words .now) (a .i) (c .before .before .before .before .before .before .before .before .before .before .before .before .before .before .before .before .before .before .before .before .before .before .before .before .before .before .before .before .before .before .before .seen-w .ensures) (c .before .before .before .before .before .before .before .before .before .before .before .before .before .before .before .before .before .before .before .before .before .before .before .before .before .before .before .before .sample-in .ensures)) (next-front (a .k) (a .floats .now) (a .words .now) (a .view .full) (a .n) (a .i) (c .before .before .before .before .before .before .before .before .before .before .before .before .before .before .before .before .before .before .before .before .before .before .before .before .before .before .before .before .before .before .before .seen-w .ensures) (c .before .before .before .before .before .before .before .before .before .before .before .before .before .before .before .before .before .before .before .before .before .before .next-of .ensures)) (emit-front (a .k) (a .x) (a .floats .now) (a .words .now) (a .owners .now) (a .view) _ _ (c .before .before .before .before .before .before .before .before .before .before .before .before .before .before .before .before .before .before .before .before .before .before .before .before .before .before .before .before .before .before .before .seen-w .ensures) (c .before .before .before .before .before .before .before .before .before .before .before .before .before .before .before .before .before .emit .ensures .0)) (c .before .before .before .before .before .before .before .before .before .before .before .next .given .1) (c .before .before .before .before .before .before .between .ensures .0), (done-between (c .before .before .before .before .before .before .before .before .before .before .before .before .before .before .before .before .before .emit .kept .1 .1 .1 .1 .1 .0) (c .before .before .before .before .before .before .before .before .before .before .before .before .before .before .before .before .before .emit .ensures .1) (c .before .before .before .before .before .before .between .ensures .1 .0), c .before .before .before .before .before .before .between .ensures .1 .1))
 
 same-length-4 : tie.Need-same-length-4
 same-length-4 c = refl
 
 same-length-5 : tie.Need-same-length-5
-same-length-5 c = c .before .before .before .before .before .before .emit .kept .1 .0
+same-length-5 c = c .before .before .before .before .before .before .emit .kept .1 .1 .1 .1 .1 .0
 
 same-length-6 : tie.Need-same-length-6
-same-length-6 c = c .before .before .before .before .before .before .emit .kept .1 .1 .0
+same-length-6 c = c .before .before .before .before .before .before .emit .kept .1 .1 .1 .1 .1 .1 .0
 
 returns-2 : tie.Need-returns-2
-returns-2 c = let a = c .before .before .before .before .before .before .before .before .before .before .before .before .before .before .before .before .before .before .before .before .before .before .before .before .before .before .args in (visit-last (courseIn (a .k) (a .x) (a .floats .now) (part 0 (seenW (a .k)) (a .words .now)) (a .view) (a .step) (a .points .now) (a .polygons .now) (a .owners .now)) _ _ _ (sample-front (a .k) (a .floats .now) (a .words .now) (a .i) (c .before .before .before .before .before .before .before .before .before .before .before .before .before .before .before .before .before .before .seen-w .ensures) (c .before .before .before .before .before .before .before .before .before .before .before .before .before .before .before .sample-in .ensures)) (next-front (a .k) (a .floats .now) (a .words .now) (a .view .full) (a .n) (a .i) (c .before .before .before .before .before .before .before .before .before .before .before .before .before .before .before .before .before .before .seen-w .ensures) (c .before .before .before .before .before .before .before .before .before .next-of .ensures)) (c .before .before .before .before .before .before .emit .ensures .0) (c .enum-told .given .1), (done-emitted (c .before .before .before .before .before .before .emit .ensures .1), only-refl _ _ _))
+returns-2 c = let a = c .before .before .before .before .before .before .before .before .before .before .before .before .before .before .before .before .before .before .before .before .before .before .before .before .before .before .before .before .args in (visit-last (courseIn (a .k) (a .x) (a .floats .now) (part 0 (seenW (a .k)) (a .words .now)) (a .view) (a .step) (a .points .now) (a .polygons .now) (a .owners .now)) _ _ _ (sample-front (a .k) (a .floats .now) (a .words .now) (a .i) (c .before .before .before .before .before .before .before .before .before .before .before .before .before .before .before .before .before .before .before .before .seen-w .ensures) (c .before .before .before .before .before .before .before .before .before .before .before .before .before .before .before .before .before .sample-in .ensures)) (next-front (a .k) (a .floats .now) (a .words .now) (a .view .full) (a .n) (a .i) (c .before .before .before .before .before .before .before .before .before .before .before .before .before .before .before .before .before .before .before .before .seen-w .ensures) (c .before .before .before .before .before .before .before .before .before .before .before .next-of .ensures)) (emit-front (a .k) (a .x) (a .floats .now) (a .words .now) (a .owners .now) (a .view) _ _ (c .before .before .before .before .before .before .before .before .before .before .before .before .before .before .before .before .before .before .before .before .seen-w .ensures) (c .before .before .before .before .before .before .emit .ensures .0)) (c .enum-told .given .1), (done-emitted (c .before .before .before .before .before .before .emit .ensures .1), only-refl _ _ _))
 
 pub visit-spec : {M : Type 1} → statement M
 visit-spec =
@@ -104,6 +111,9 @@ visit-spec =
     part-next-of-start
     part-next-of-end
     next-of-requires
+    sub-emit
+    part-emit-start
+    part-emit-end
     emit-requires
     enum-known-next
     between-requires

@@ -1,0 +1,2 @@
+-- What the functions of `credit` mean.
+pub mod Credit
