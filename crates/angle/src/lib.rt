@@ -212,11 +212,8 @@ fn sin_cos_far(x: f64) -> SinCos
 pub fn sin_cos(x: f64) -> SinCos
     ensures { λ v. ⌜ (v .sin ≡ sinOf x) × (v .cos ≡ cosOf x) ⌝ }
 {
-    if K_MINUS_PI4 <= x {
-        if x <= K_PI4 {
-            return sin_cos_near(x);
-        }
-        return sin_cos_far(x);
+    if (K_MINUS_PI4 <= x) & (x <= K_PI4) {
+        return sin_cos_near(x);
     }
     sin_cos_far(x)
 }

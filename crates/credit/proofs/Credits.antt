@@ -1,10 +1,10 @@
--- THE CREDITS OF A CAST. In mode 0 the edge that it hit alone (`credits-rust`). In the other: the edge answered is one of them (`credits-answer`); each of them is
--- the edge answered or a tied one (`credits-tied`); no owner has two (`credits-once`); and every owner of a tied edge, of the 4,096 that a sound site may have, has
+-- THE CREDITS OF A CAST. In mode 0 the edge that it hit alone (`credits-rust`), and so it is where it was not tied (`further-none`). In the other: the edge answered
+-- is one of them (`credits-answer`); each of them is the edge answered or a tied one (`credits-tied`); no owner has two (`credits-once`); and every owner of a tied edge, of the 4,096 that a sound site may have, has
 -- one (`credits-every`). Below: each way through `credit`, over plain values. Assumes nothing.
 use mathlib.Core.Path.{_≡_, refl, sym, ap, _∙_, subst}
 use mathlib.Core.Logic.{_⊎_, inl, inr, ⊎-elim}
 use mathlib.Core.Bool.{Bool, true, false, cond}
-use mathlib.Core.List.{List, [], _∷_, map}
+use mathlib.Core.List.{List, [], _∷_, _++_, map, map-append}
 use Prim.Native.Nat.{ℕ, _<_}
 use native.Mathlib.Omega.{arith}
 use lib.Dec.{eqb}
@@ -15,6 +15,7 @@ use borrow.Author.Tests.{eq-eqb, ne-eqb, eqb-true, eqb-false}
 use Rattle.lists.specs.Members.{In, All, NoDup}
 use Rattle.lists.specs.Parts.{part}
 use Rattle.lists.proofs.Cases.{lt-or-le, eq-or-ne}
+use Rattle.lists.proofs.Members.{in-left, in-right, in-either}
 use Rattle.geom.specs.Constants.{nano}
 use Rattle.geom.specs.declared.Vec2.{Vec2}
 use Rattle.site.specs.declared.Cast.{Cast}
@@ -26,15 +27,15 @@ use Rattle.room.specs.Records.{edgeAt}
 use Rattle.index.specs.declared.AngularIndex.{AngularIndex}
 use Rattle.index.specs.declared.Best.{Best}
 use Rattle.index.specs.Angular.{Index}
-use Rattle.index.specs.Casting.{noneYet, walkOf, bucketAt, castBy, castOf, testedIn, tiedOf}
+use Rattle.index.specs.Casting.{castBy, castOf, isTied, testedIn, tiedOf}
 use Rattle.index.specs.Stands.{indexIn, WalkedAt}
-use Rattle.index.proofs.Casts.{cast-hit, cast-miss, cast-is, tested-is}
+use Rattle.index.proofs.Casts.{cast-hit, cast-miss, cast-is, tested-is, tie-is}
 use Rattle.index.proofs.Hits.{in-map, from-map}
 use Rattle.index.proofs.Lowest.{alone}
 use Rattle.outline.specs.declared.Trace.{Trace}
 use Rattle.outline.specs.Outline.{Own, owned, ownOf, Room}
-use Rattle.credit.specs.Credit.{firstsOf, noMarks, tiedNumbers, creditsBy, creditsOf, ownAll, Credited}
-use Rattle.credit.proofs.Ways.{all-credited}
+use Rattle.credit.specs.Credit.{firstsOf, noMarks, tiedNumbers, furtherOf, creditsOf, ownAll, Raised, Credited}
+use Rattle.credit.proofs.Ways.{all-raised, all-credited, all-joined}
 
 -- ---- marks
 marked-one : (l : List ℕ) (i : ℕ) → getD (set l i 1) i 1 ≡ 1
@@ -105,105 +106,129 @@ module _ (owners : List ℕ) where
       by false q f g j =
           ⊎-elim (λ w. absurd (eqb-false (getD marks (ownerAt owners x) 1) 0 q (ap (λ (y : ℕ). getD marks (ownerAt owners y) 1) (sym w) ∙ z))) g j
 
--- ---- THE THEOREMS
-module _ (x : Index) (owners : List ℕ) (o : Vec2) (angle : Float) (dir : Vec2) (max : Float) (e : ℕ) where
-  abbrev credits : List ℕ
-  credits = creditsOf x owners o angle dir max e
+-- one more at the end, which is not among them
+once-more : (y : ℕ) (l : List ℕ) → NoDup l → (In y l → ⊥) → NoDup (l ++ (y ∷ []))
+once-more y [] d n = (λ i. i, tt)
+once-more y (x ∷ l) d n = (λ i. ⊎-elim (d .0) (⊎-elim (λ q. n (inl (sym q))) (λ b. b)) (in-either x l (y ∷ []) i), once-more y l (d .1) (λ i. n (inr i)))
 
-  pub credits-rust : x .head .mode ≡ 0 → credits ≡ e ∷ []
-  unfolding creditsOf
-  credits-rust h = rw (eq-eqb (x .head .mode) 0 h)
+-- ---- THE THEOREMS
+module _ (x : Index) (owners : List ℕ) (o : Vec2) (angle : Float) (dir : Vec2) (max : Float) where
+  pub further-rust : x .head .mode ≡ 0 → furtherOf x owners o angle dir max ≡ []
+  unfolding furtherOf
+  further-rust h = rw (eq-eqb (x .head .mode) 0 h)
 
   module _ (ties : x .head .mode ≡ 0 → ⊥) where
-    credits-miss : castOf x o angle dir max ≡ Miss → credits ≡ e ∷ []
-    unfolding creditsOf
-    credits-miss h = rw (ne-eqb (x .head .mode) 0 ties, h)
+    pub further-miss : castOf x o angle dir max ≡ Miss → furtherOf x owners o angle dir max ≡ []
+    unfolding furtherOf
+    further-miss h = rw (ne-eqb (x .head .mode) 0 ties, h)
 
     module _ (t : Float) (f : ℕ) (hit : castOf x o angle dir max ≡ Hit t f) where
       abbrev numbers : List ℕ
       numbers = tiedNumbers o dir t (testedIn x o angle dir max)
 
-      pub credits-hit : credits ≡ f ∷ firstsOf owners (set noMarks (ownerAt owners f) 1) numbers
-      unfolding creditsOf
-      credits-hit = rw (ne-eqb (x .head .mode) 0 ties, hit)
+      pub further-hit : furtherOf x owners o angle dir max ≡ firstsOf owners (set noMarks (ownerAt owners f) 1) numbers
+      unfolding furtherOf
+      further-hit = rw (ne-eqb (x .head .mode) 0 ties, hit)
 
       numbers-are : numbers ≡ map (λ (y : LocalEdge). y .edge) (tiedOf x o angle dir max t)
       unfolding tiedNumbers tiedOf
       numbers-are = refl
 
-      -- the edge answered alone, where the walk met no further one at its distance
-      pub credits-alone : walkOf nano o dir (x .head .mode) (noneYet max) (bucketAt x angle) .tied ≡ false → credits ≡ f ∷ []
-      credits-alone z =
-          credits-hit
-          ∙ ap (λ (l : List ℕ). f ∷ l)
-          (firsts-none owners (set noMarks (ownerAt owners f) 1) (ownerAt owners f) (marked-one noMarks (ownerAt owners f)) numbers
-          (subst (All (λ n. ownerAt owners n ≡ ownerAt owners f)) (sym numbers-are) (each (tiedOf x o angle dir max t) (alone x o angle dir max t f hit ties z))))
+      -- none, where the walk met no further edge at its distance
+      pub further-alone : isTied x o angle dir max ≡ false → furtherOf x owners o angle dir max ≡ []
+      unfolding isTied
+      further-alone z =
+          further-hit
+          ∙ firsts-none owners (set noMarks (ownerAt owners f) 1) (ownerAt owners f) (marked-one noMarks (ownerAt owners f)) numbers
+          (subst (All (λ n. ownerAt owners n ≡ ownerAt owners f)) (sym numbers-are) (each (tiedOf x o angle dir max t) (alone x o angle dir max t f hit ties z)))
         where
           each : (l : List LocalEdge) → All (λ y. y .edge ≡ f) l → All (λ n. ownerAt owners n ≡ ownerAt owners f) (map (λ (y : LocalEdge). y .edge) l)
           each [] a = tt
           each (y ∷ l) a = (ap (ownerAt owners) (a .0), each l (a .1))
 
-      pub credits-answer : In f credits
-      credits-answer = subst (In f) (sym credits-hit) (inl refl)
+  -- so a cast that is not tied has none, in either mode
+  pub further-none : ((t : Float) (f : ℕ) → castOf x o angle dir max ≡ Hit t f → isTied x o angle dir max ≡ false) → furtherOf x owners o angle dir max ≡ []
+  further-none lone = ⊎-elim further-rust (λ n. by n (castOf x o angle dir max) refl) (eq-or-ne (x .head .mode) 0)
+    where
+      by : (x .head .mode ≡ 0 → ⊥) → (c : Cast) → castOf x o angle dir max ≡ c → furtherOf x owners o angle dir max ≡ []
+      by n (Hit t f) h = further-alone n t f h (lone t f h)
+      by n Miss h = further-miss n h
 
-      pub credits-tied : (n : ℕ) → In n credits → (n ≡ f) ⊎ ((y : LocalEdge) × In y (tiedOf x o angle dir max t) × (y .edge ≡ n))
-      credits-tied n i =
-          ⊎-elim inl (λ j. inr (from-map (λ (y : LocalEdge). y .edge) n (tiedOf x o angle dir max t) (subst (In n) numbers-are (firsts-in owners (set noMarks (ownerAt owners f) 1) numbers n j))))
-          (subst (In n) credits-hit i)
+module _ (x : Index) (owners : List ℕ) (o : Vec2) (angle : Float) (dir : Vec2) (max : Float) (e : ℕ) where
+  abbrev credits : List ℕ
+  credits = creditsOf x owners o angle dir max e
 
-      pub credits-once : NoDup (map (ownerAt owners) credits)
-      credits-once =
-          subst (λ (l : List ℕ). NoDup (map (ownerAt owners) l)) (sym credits-hit) (
-            λ i. let z = firsts-free owners (set noMarks (ownerAt owners f) 1) numbers (ownerAt owners f) i in let w = marked-one noMarks (ownerAt owners f) in omega arith,
-            firsts-once owners (set noMarks (ownerAt owners f) 1) numbers,
-          )
+  credits-are : credits ≡ furtherOf x owners o angle dir max ++ (e ∷ [])
+  unfolding creditsOf
+  credits-are = refl
 
-      pub credits-every : (y : LocalEdge) → In y (tiedOf x o angle dir max t) → ownerAt owners (y .edge) < 4096 → In (ownerAt owners (y .edge)) (map (ownerAt owners) credits)
-      unfolding noMarks
-      credits-every y i l =
-          subst (λ (m : List ℕ). In (ownerAt owners (y .edge)) (map (ownerAt owners) m)) (sym credits-hit)
-          (⊎-elim inl
-          (λ n. inr (firsts-every owners (set noMarks (ownerAt owners f) 1) numbers (y .edge) (subst (In (y .edge)) (sym numbers-are) (in-map (λ (z : LocalEdge). z .edge) y (tiedOf x o angle dir max t) i))
-          (getD-set-other noMarks (ownerAt owners f) (ownerAt owners (y .edge)) 1 1 n ∙ getD-replicate 4096 (ownerAt owners (y .edge)) 0 1 l)))
-          (eq-or-ne (ownerAt owners (y .edge)) (ownerAt owners f)))
+  pub credits-rust : x .head .mode ≡ 0 → credits ≡ e ∷ []
+  credits-rust h = credits-are ∙ ap (λ (l : List ℕ). l ++ (e ∷ [])) (further-rust x owners o angle dir max h)
 
--- ---- `credit`
+  pub credits-answer : In e credits
+  credits-answer = subst (In e) (sym credits-are) (in-right e (furtherOf x owners o angle dir max) (e ∷ []) (inl refl))
+
+  module _ (ties : x .head .mode ≡ 0 → ⊥) (t : Float) (hit : castOf x o angle dir max ≡ Hit t e) where
+    abbrev others : List ℕ
+    others = firstsOf owners (set noMarks (ownerAt owners e) 1) (numbers x owners o angle dir max ties t e hit)
+
+    credits-hit : credits ≡ others ++ (e ∷ [])
+    credits-hit = credits-are ∙ ap (λ (l : List ℕ). l ++ (e ∷ [])) (further-hit x owners o angle dir max ties t e hit)
+
+    pub credits-tied : (n : ℕ) → In n credits → (n ≡ e) ⊎ ((y : LocalEdge) × In y (tiedOf x o angle dir max t) × (y .edge ≡ n))
+    credits-tied n i =
+        ⊎-elim
+        (λ j. inr (from-map (λ (y : LocalEdge). y .edge) n (tiedOf x o angle dir max t) (subst (In n) (numbers-are x owners o angle dir max ties t e hit) (firsts-in owners (set noMarks (ownerAt owners e) 1) (numbers x owners o angle dir max ties t e hit) n j))))
+        (λ j. inl (⊎-elim (λ q. q) (λ b. absurd b) j))
+        (in-either n others (e ∷ []) (subst (In n) credits-hit i))
+
+    owners-are : map (ownerAt owners) credits ≡ map (ownerAt owners) others ++ (ownerAt owners e ∷ [])
+    owners-are = ap (map (ownerAt owners)) credits-hit ∙ map-append (ownerAt owners) others (e ∷ [])
+
+    pub credits-once : NoDup (map (ownerAt owners) credits)
+    credits-once =
+        subst NoDup (sym owners-are)
+        (once-more (ownerAt owners e) (map (ownerAt owners) others) (firsts-once owners (set noMarks (ownerAt owners e) 1) (numbers x owners o angle dir max ties t e hit))
+        (λ i. let z = firsts-free owners (set noMarks (ownerAt owners e) 1) (numbers x owners o angle dir max ties t e hit) (ownerAt owners e) i in let w = marked-one noMarks (ownerAt owners e) in omega arith))
+
+    pub credits-every : (y : LocalEdge) → In y (tiedOf x o angle dir max t) → ownerAt owners (y .edge) < 4096 → In (ownerAt owners (y .edge)) (map (ownerAt owners) credits)
+    unfolding noMarks
+    credits-every y i l =
+        subst (In (ownerAt owners (y .edge))) (sym owners-are)
+        (⊎-elim
+        (λ q. in-right (ownerAt owners (y .edge)) (map (ownerAt owners) others) (ownerAt owners e ∷ []) (inl q))
+        (λ n. in-left (ownerAt owners (y .edge)) (map (ownerAt owners) others) (ownerAt owners e ∷ [])
+        (firsts-every owners (set noMarks (ownerAt owners e) 1) (numbers x owners o angle dir max ties t e hit) (y .edge)
+        (subst (In (y .edge)) (sym (numbers-are x owners o angle dir max ties t e hit)) (in-map (λ (z : LocalEdge). z .edge) y (tiedOf x o angle dir max t) i))
+        (getD-set-other noMarks (ownerAt owners e) (ownerAt owners (y .edge)) 1 1 n ∙ getD-replicate 4096 (ownerAt owners (y .edge)) 0 1 l)))
+        (eq-or-ne (ownerAt owners (y .edge)) (ownerAt owners e)))
+
+-- ---- `further` and `credit`
 -- the marks of the call's own, with that of the owner of the edge answered
 pub mine-is : (owners : List ℕ) (f : ℕ) {none : List ℕ} → none ≡ noMarks → {m a p : ℕ} → m ≡ f → a ≡ ownerAt owners m → p ≡ a → {mine : List ℕ} → mine ≡ set none p 1
     → mine ≡ set noMarks (ownerAt owners f) 1
 mine-is owners f {none} hn {m} {a} {p} hm ha hp h = h ∙ ap (λ (l : List ℕ). set l p 1) hn ∙ ap (λ (i : ℕ). set noMarks i 1) (hp ∙ ha ∙ ap (ownerAt owners) hm)
 
-module _ (k : Rooms) (x : AngularIndex) (floats : List Float) (words owners : List ℕ) (o : Vec2) (angle : Float) (dir : Vec2) (max : Float) (e room : ℕ) (marks : List ℕ) (s : Trace) where
+module _ (k : Rooms) (x : AngularIndex) (floats : List Float) (words owners : List ℕ) (o : Vec2) (angle : Float) (dir : Vec2) (max : Float) (room : ℕ) (marks : List ℕ) (s : Trace) where
   abbrev index : Index
   index = indexIn k floats words x
 
-  abbrev all : List ℕ
-  all = creditsOf index owners o angle dir max e
+  abbrev more : List ℕ
+  more = furtherOf index owners o angle dir max
 
   mode-is : index .head .mode ≡ x .mode
   unfolding indexIn
   mode-is = refl
 
-  by-one : (f : ℕ) → all ≡ f ∷ [] → {q : Own} → q ≡ ownOf room owners f marks s → q ≡ ownAll room owners all marks s
-  by-one f h e = e ∙ ap (λ (l : List ℕ). ownAll room owners l marks s) (sym h)
+  -- none
+  nothing : more ≡ [] → owned marks s ≡ ownAll room owners more marks s
+  nothing h = ap (λ (l : List ℕ). ownAll room owners l marks s) (sym h)
 
-  pub credit-rust : x .mode ≡ 0 → {q : Own} → q ≡ ownOf room owners e marks s → q ≡ ownAll room owners all marks s
-  credit-rust h = by-one e (credits-rust index owners o angle dir max e (mode-is ∙ h))
+  pub more-rust : x .mode ≡ 0 → owned marks s ≡ ownAll room owners more marks s
+  more-rust h = nothing (further-rust index owners o angle dir max (mode-is ∙ h))
 
-  -- there is one at least
-  some-by : (c : Cast) (b : Bool) → (f : ℕ) × (l : List ℕ) × (cond b (e ∷ []) (creditsBy index owners o angle dir max e c) ≡ f ∷ l)
-  some-by c true = (e, [], refl)
-  some-by (Hit t f) false = (f, firstsOf owners (set noMarks (ownerAt owners f) 1) (tiedNumbers o dir t (testedIn index o angle dir max)), refl)
-  some-by Miss false = (e, [], refl)
-
-  some : (f : ℕ) × (l : List ℕ) × (all ≡ f ∷ l)
-  unfolding creditsOf
-  some = some-by (castOf index o angle dir max) (eqb (index .head .mode) 0)
-
-  pub credited : Room room s → {m : List ℕ} {r : Trace} → owned m r ≡ ownAll room owners all marks s → Credited room s r
-  credited h {m} {r} w =
-      let (f, l, z) = some in
-      subst (Credited room s) (sym (ap (λ (q : Own). q .at) (w ∙ ap (λ (y : List ℕ). ownAll room owners y marks s) z))) (all-credited room owners f l marks s h)
+  pub raised : Room room s → {m : List ℕ} {r : Trace} → owned m r ≡ ownAll room owners more marks s → Raised room s r
+  raised h w = subst (Raised room s) (sym (ap (λ (q : Own). q .at) w)) (all-raised room owners more marks s h)
 
   module _ (ties : x .mode ≡ 0 → ⊥) {w : Best} {from to : ℕ} (W : WalkedAt nano k x floats words o angle dir max w from to) where
     on : index .head .mode ≡ 0 → ⊥
@@ -213,25 +238,39 @@ module _ (k : Rooms) (x : AngularIndex) (floats : List Float) (words owners : Li
     unfolding castOf
     cast-was = cast-is nano k x floats words o angle dir max w from to W
 
-    pub credit-miss : w .found ≡ false → {q : Own} → q ≡ ownOf room owners e marks s → q ≡ ownAll room owners all marks s
-    credit-miss h = by-one e (credits-miss index owners o angle dir max e on (sym cast-was ∙ sym (cast-miss w h)))
+    pub more-miss : w .found ≡ false → owned marks s ≡ ownAll room owners more marks s
+    more-miss h = nothing (further-miss index owners o angle dir max on (sym cast-was ∙ sym (cast-miss w h)))
 
     module _ (h : w .found ≡ true) where
       hit : castOf index o angle dir max ≡ Hit (w .t) (w .edge)
       hit = sym cast-was ∙ sym (cast-hit w h)
 
-      tied-was : walkOf nano o dir (index .head .mode) (noneYet max) (bucketAt index angle) .tied ≡ w .tied
-      unfolding indexIn
-      tied-was = sym (ap (λ (b : Best). b .tied) (W .best-is))
+      pub more-alone : w .tied ≡ false → owned marks s ≡ ownAll room owners more marks s
+      more-alone z = nothing (further-alone index owners o angle dir max on (w .t) (w .edge) hit (sym (tie-is k x floats words o angle dir max W) ∙ z))
 
-      pub credit-alone : w .tied ≡ false → {q : Own} → q ≡ ownOf room owners (w .edge) marks s → q ≡ ownAll room owners all marks s
-      credit-alone z = by-one (w .edge) (credits-alone index owners o angle dir max e on (w .t) (w .edge) hit (tied-was ∙ z))
+      pub more-tied : {mine : List ℕ} → mine ≡ set noMarks (ownerAt owners (w .edge)) 1
+          → {r : Own} → r ≡ ownAll room owners (firstsOf owners mine (tiedNumbers o dir (w .t) (map (edgeAt k floats words) (part from to words)))) marks s → r ≡ ownAll room owners more marks s
+      more-tied {mine} h₁ {r} h₂ =
+          h₂
+          ∙ ap (λ (l : List ℕ). ownAll room owners (firstsOf owners l (tiedNumbers o dir (w .t) (map (edgeAt k floats words) (part from to words)))) marks s) h₁
+          ∙ ap (λ (l : List LocalEdge). ownAll room owners (firstsOf owners (set noMarks (ownerAt owners (w .edge)) 1) (tiedNumbers o dir (w .t) l)) marks s) (tested-is k x floats words o angle dir max W)
+          ∙ ap (λ (l : List ℕ). ownAll room owners l marks s) (sym (further-hit index owners o angle dir max on (w .t) (w .edge) hit))
 
-      pub credit-tied : {m : List ℕ} {q : Trace} → owned m q ≡ ownOf room owners (w .edge) marks s → {mine : List ℕ} → mine ≡ set noMarks (ownerAt owners (w .edge)) 1
-          → {r : Own} → r ≡ ownAll room owners (firstsOf owners mine (tiedNumbers o dir (w .t) (map (edgeAt k floats words) (part from to words)))) m q → r ≡ ownAll room owners all marks s
-      credit-tied {m} {q} h₁ {mine} h₂ {r} h₃ =
-          h₃
-          ∙ ap (λ (l : List ℕ). ownAll room owners (firstsOf owners l (tiedNumbers o dir (w .t) (map (edgeAt k floats words) (part from to words)))) m q) h₂
-          ∙ ap (λ (l : List LocalEdge). ownAll room owners (firstsOf owners (set noMarks (ownerAt owners (w .edge)) 1) (tiedNumbers o dir (w .t) l)) m q) (tested-is k x floats words o angle dir max W)
-          ∙ ap (λ (y : Own). ownAll room owners (firstsOf owners (set noMarks (ownerAt owners (w .edge)) 1) (tiedNumbers o dir (w .t) (testedIn index o angle dir max))) (y .marks) (y .at)) h₁
-          ∙ ap (λ (l : List ℕ). ownAll room owners l marks s) (sym (credits-hit index owners o angle dir max e on (w .t) (w .edge) hit))
+  -- the further ones, and then the edge
+  module _ (e : ℕ) where
+    pub credit-both : {m : List ℕ} {q : Trace} → owned m q ≡ ownAll room owners more marks s → {r : Own} → r ≡ ownOf room owners e m q → r ≡ ownAll room owners (creditsOf index owners o angle dir max e) marks s
+    credit-both {m} {q} h₁ h₂ =
+        h₂
+        ∙ ap (λ (y : Own). ownOf room owners e (y .marks) (y .at)) h₁
+        ∙ sym (all-joined room owners more (e ∷ []) marks s)
+        ∙ ap (λ (l : List ℕ). ownAll room owners l marks s) (sym (credits-are index owners o angle dir max e))
+
+    some : (l : List ℕ) → (f : ℕ) × (m : List ℕ) × (l ++ (e ∷ []) ≡ f ∷ m)
+    some [] = (e, [], refl)
+    some (f ∷ l) = (f, l ++ (e ∷ []), refl)
+
+    -- there is one at least
+    pub credited : Room room s → {m : List ℕ} {r : Trace} → owned m r ≡ ownAll room owners (creditsOf index owners o angle dir max e) marks s → Credited room s r
+    credited h {m} {r} w =
+        let (f, l, z) = some more in
+        subst (Credited room s) (sym (ap (λ (q : Own). q .at) (w ∙ ap (λ (y : List ℕ). ownAll room owners y marks s) (credits-are index owners o angle dir max e ∙ z)))) (all-credited room owners f l marks s h)

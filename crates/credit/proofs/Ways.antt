@@ -2,7 +2,7 @@
 use mathlib.Core.Path.{_≡_, refl, sym, ap, _∙_, subst}
 use mathlib.Core.Logic.{⊎-elim}
 use mathlib.Core.Bool.{Bool, true, false}
-use mathlib.Core.List.{List, [], _∷_, map}
+use mathlib.Core.List.{List, [], _∷_, _++_, map}
 use Prim.Native.Nat.{ℕ, zero, suc, _+_, _≤_, _<_, min}
 use native.Mathlib.Nat.{not-suc-le-zero, le-of-suc-le-suc}
 use native.Mathlib.Omega.{arith}
@@ -23,7 +23,7 @@ use Rattle.index.proofs.Walking.{cut-here, cut-none}
 use Rattle.outline.specs.declared.Trace.{Trace}
 use Rattle.outline.specs.Outline.{Own, owned, ownOf, Room, Grown}
 use Rattle.outline.proofs.Ways.{own-over, own-add, own-full, grown-over, grown-add, grown-full}
-use Rattle.credit.specs.Credit.{firstsOf, tiedNumbers, ownAll, Credited}
+use Rattle.credit.specs.Credit.{firstsOf, tiedNumbers, ownAll, Raised, Credited}
 
 -- ---- a mark
 module _ (marks : List ℕ) (p : ℕ) where
@@ -120,13 +120,7 @@ own-counted room owners e marks s h = by (s .over) refl
         (λ m. subst (λ (q : Own). Grown room s (q .at)) (own-full room owners e marks s k m) (grown-full h k)) (lt-or-le (s .owners) room)
 
 -- of any number of entries
-record Raised (room : ℕ) (s r : Trace) : Type 0 where
-  points : r .points ≡ s .points
-  refinements : r .refinements ≡ s .refinements
-  entries : Room room r
-  up : s .owners ≤ r .owners
-
-all-raised : (room : ℕ) (owners l marks : List ℕ) (s : Trace) → Room room s → Raised room s (ownAll room owners l marks s .at)
+pub all-raised : (room : ℕ) (owners l marks : List ℕ) (s : Trace) → Room room s → Raised room s (ownAll room owners l marks s .at)
 all-raised room owners [] marks s h = record { points = refl; refinements = refl; entries = h; up = omega arith }
 all-raised room owners (e ∷ l) marks s h =
     let g = own-counted room owners e marks s h in
@@ -139,4 +133,9 @@ all-credited room owners e l marks s h =
     let g = own-counted room owners e marks s h in
     let q = ownOf room owners e marks s in
     let r = all-raised room owners l (q .marks) (q .at) (g .entries) in
-    record { points = r .points ∙ g .points; refinements = r .refinements ∙ g .refinements; entries = r .entries; up = omega (arith, g .up, r .up); grew = λ k. omega (arith, g .grew k, r .up) }
+    record { raised = all-raised room owners (e ∷ l) marks s h; grew = λ k. omega (arith, g .grew k, r .up) }
+
+-- the entries of two lists, one behind the other
+pub all-joined : (room : ℕ) (owners l m marks : List ℕ) (s : Trace) → ownAll room owners (l ++ m) marks s ≡ ownAll room owners m (ownAll room owners l marks s .marks) (ownAll room owners l marks s .at)
+all-joined room owners [] m marks s = refl
+all-joined room owners (e ∷ l) m marks s = all-joined room owners l m (ownOf room owners e marks s .marks) (ownOf room owners e marks s .at)

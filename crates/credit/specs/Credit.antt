@@ -3,7 +3,7 @@
 -- Rust's mode credits the cast's edge". Definitions only.
 use mathlib.Core.Path.{_≡_}
 use mathlib.Core.Bool.{false, cond}
-use mathlib.Core.List.{List, [], _∷_, map}
+use mathlib.Core.List.{List, [], _∷_, _++_, map}
 use Prim.Native.Nat.{ℕ, _+_, _≤_}
 use lib.Dec.{eqb}
 use lib.ListN.{getD, set, replicate}
@@ -39,25 +39,34 @@ unfoldable pub tiedNumbers : Vec2 → Vec2 → Float → List LocalEdge → List
 unfolding tiesAt
 tiedNumbers o dir t l = map (λ (e : LocalEdge). e .edge) (filter (tiesAt nano o dir t) l)
 
--- by what the cast answers: the edge answered, then, for each further owner of the tied edges, the first of its edges that was tested
-abbrev pub creditsBy : Index → List ℕ → Vec2 → Float → Vec2 → Float → ℕ → Cast → List ℕ
-creditsBy x owners o angle dir max e (Hit t f) = f ∷ firstsOf owners (set noMarks (ownerAt owners f) 1) (tiedNumbers o dir t (testedIn x o angle dir max))
-creditsBy x owners o angle dir max e Miss = e ∷ []
+-- beside the edge that the cast answers: for each further owner of the tied edges, the first of its edges that was tested
+abbrev pub furtherBy : Index → List ℕ → Vec2 → Float → Vec2 → Float → Cast → List ℕ
+furtherBy x owners o angle dir max (Hit t f) = firstsOf owners (set noMarks (ownerAt owners f) 1) (tiedNumbers o dir t (testedIn x o angle dir max))
+furtherBy x owners o angle dir max Miss = []
 
--- of the cast from o at an angle, which hit the edge e. In the Rust's mode it is e alone; so it is where the cast answers a miss, which is no hit
-unfoldable pub creditsOf : Index → List ℕ → Vec2 → Float → Vec2 → Float → ℕ → List ℕ
+-- of the cast from o at an angle. In the Rust's mode there are none
+unfoldable pub furtherOf : Index → List ℕ → Vec2 → Float → Vec2 → Float → List ℕ
 unfolding castOf testedIn tiedNumbers noMarks
-creditsOf x owners o angle dir max e = cond (eqb (x .head .mode) 0) (e ∷ []) (creditsBy x owners o angle dir max e (castOf x o angle dir max))
+furtherOf x owners o angle dir max = cond (eqb (x .head .mode) 0) [] (furtherBy x owners o angle dir max (castOf x o angle dir max))
+
+-- all of that cast, which hit the edge e: the further ones, and the one that the Rust credits
+unfoldable pub creditsOf : Index → List ℕ → Vec2 → Float → Vec2 → Float → ℕ → List ℕ
+unfolding furtherOf
+creditsOf x owners o angle dir max e = furtherOf x owners o angle dir max ++ (e ∷ [])
 
 -- ---- their entries, one after the other
 abbrev pub ownAll : ℕ → List ℕ → List ℕ → List ℕ → Trace → Own
 ownAll room owners [] marks s = owned marks s
 ownAll room owners (e ∷ l) marks s = let q = ownOf room owners e marks s in ownAll room owners l (q .marks) (q .at)
 
--- the counts afterwards: the entries stay within their room and there is one more at least, unless the run was over; the other counts stay
-pub record Credited (room : ℕ) (s r : Trace) : Type 0 where
+-- the counts afterwards: the entries stay within their room, and the other counts stay
+pub record Raised (room : ℕ) (s r : Trace) : Type 0 where
   pub points : r .points ≡ s .points
   pub refinements : r .refinements ≡ s .refinements
   pub entries : Room room r
   pub up : s .owners ≤ r .owners
+
+-- and with the entry of a hit there is one more at least, unless the run was over
+pub record Credited (room : ℕ) (s r : Trace) : Type 0 where
+  pub raised : Raised room s r
   pub grew : s .over ≡ false → s .owners + 1 ≤ r .owners

@@ -1,6 +1,7 @@
 // The credits of a hit: the entries of the Rust's `owners` (`visibility.rs`, lines 438 and 674) in both modes. In mode 0 the polygon that owns the edge
-// answered has one. In the other every polygon that owns a tied edge has one: the cast is walked again, and only where it met a further edge at its distance
-// are the edges gone through that it tested. Who was credited for this cast is kept in marks of the call's own, so that no pair is compared.
+// answered has one. In the other every polygon that owns a tied edge has one, the owner of the edge answered as the last: the cast is walked again, and only where
+// it met a further edge at its distance are the edges gone through that it tested. Who was credited for this cast is kept in marks of the call's own, so that no
+// pair is compared. The sweep asks for the further ones by themselves, where a tie is noted for its sample.
 // Meanings: specs/Credit.antt.
 use geom::Vec2;
 use index::AngularIndex;
@@ -19,7 +20,7 @@ ghost use Rattle.room.specs.Records.{edgeAt};
 ghost use Rattle.index.specs.Casting.{tiesAt};
 ghost use Rattle.index.specs.Stands.{indexIn};
 ghost use Rattle.outline.specs.Outline.{owned, Room};
-ghost use Rattle.credit.specs.Credit.{firstsOf, tiedNumbers, creditsOf, ownAll, Credited};
+ghost use Rattle.credit.specs.Credit.{firstsOf, tiedNumbers, furtherOf, creditsOf, ownAll, Raised, Credited};
 
 // Has the owner p no mark yet? One past the marks counts as marked.
 fn is_free(marks: &[u8], p: usize) -> bool
@@ -104,8 +105,8 @@ fn own_tied(
     r
 }
 
-// The credits of a cast where ties count. It stands apart, so that a call in mode 0 does without its marks.
-fn credit_ties(
+// The further credits of the cast from o along dir, at the angle, within max: those beside the edge that it hit.
+pub fn further(
     k: Rooms,
     x: AngularIndex,
     floats: &[f64],
@@ -116,20 +117,22 @@ fn credit_ties(
     angle: f64,
     dir: Vec2,
     max: f64,
-    e: u32,
     s: Trace,
 ) -> Trace
-    requires { ⌜ Room (k .owners) s × (x .mode ≡ 0 → ⊥) ⌝ }
-    ensures { λ r. ⌜ owned (now (marks .exit)) r ≡ ownAll (k .owners) (now (owners .entry)) (creditsOf (indexIn k (now (floats .entry)) (now (words .entry)) x) (now (owners .entry)) o angle dir max e) (now (marks .entry)) s ⌝ }
+    requires { ⌜ Room (k .owners) s ⌝ }
+    ensures { λ r. ⌜ owned (now (marks .exit)) r ≡ ownAll (k .owners) (now (owners .entry)) (furtherOf (indexIn k (now (floats .entry)) (now (words .entry)) x) (now (owners .entry)) o angle dir max) (now (marks .entry)) s ⌝ }
+    ensures { λ r. ⌜ Raised (k .owners) s r ⌝ }
 {
+    if x.mode == 0 {
+        return s;
+    }
     let w = index::walk_at(1e-9, k, x, floats, words, o, angle, dir, max);
     let b = w.best;
     if !b.found {
-        return outline::own(k.owners, owners, marks, s, e);
+        return s;
     }
-    let q = outline::own(k.owners, owners, &mut *marks, s, b.edge);
     if !b.tied {
-        return q;
+        return s;
     }
     let mut mine = [0u8; 4096];
     lists::put8(&mut mine, wide(site::owner_at(owners, wide(b.edge))), 1);
@@ -145,11 +148,11 @@ fn credit_ties(
         o,
         dir,
         b.t,
-        q,
+        s,
     )
 }
 
-// The credits of the cast from o along dir, at the angle, within max, which hit the edge e.
+// All credits of that cast, which hit the edge e: the further ones, and e.
 pub fn credit(
     k: Rooms,
     x: AngularIndex,
@@ -168,8 +171,18 @@ pub fn credit(
     ensures { λ r. ⌜ owned (now (marks .exit)) r ≡ ownAll (k .owners) (now (owners .entry)) (creditsOf (indexIn k (now (floats .entry)) (now (words .entry)) x) (now (owners .entry)) o angle dir max e) (now (marks .entry)) s ⌝ }
     ensures { λ r. ⌜ Credited (k .owners) s r ⌝ }
 {
-    if x.mode == 0 {
-        return outline::own(k.owners, owners, marks, s, e);
-    }
-    credit_ties(k, x, floats, words, owners, marks, o, angle, dir, max, e, s)
+    let q = further(
+        k,
+        x,
+        floats,
+        words,
+        owners,
+        &mut *marks,
+        o,
+        angle,
+        dir,
+        max,
+        s,
+    );
+    outline::own(k.owners, owners, marks, q, e)
 }

@@ -23,7 +23,7 @@ use Rattle.room.specs.Records.{edgeAt}
 use Rattle.index.specs.declared.AngularIndex.{AngularIndex}
 use Rattle.index.specs.declared.Best.{Best}
 use Rattle.index.specs.Spans.{bucketOf}
-use Rattle.index.specs.Casting.{noneYet, castBy, stopOf, meetOf, walkOf, testedOf, turnedOf, bucketAt, castWithin, testedIn}
+use Rattle.index.specs.Casting.{noneYet, castBy, stopOf, meetOf, walkOf, testedOf, turnedOf, bucketAt, castWithin, isTied, testedIn}
 use Rattle.index.specs.Stands.{refsAt, indexIn, WalkedAt}
 
 pub cast-hit : (b : Best) → b .found ≡ true → Hit (b .t) (b .edge) ≡ castBy b
@@ -112,3 +112,8 @@ pub tested-is : (k : Rooms) (x : AngularIndex) (floats : List Float) (words : Li
     → WalkedAt nano k x floats words o angle dir max w from to → map (edgeAt k floats words) (part from to words) ≡ testedIn (indexIn k floats words x) o angle dir max
 unfolding testedIn indexIn
 tested-is k x floats words o angle dir max h = h .tested-are
+
+pub tie-is : (k : Rooms) (x : AngularIndex) (floats : List Float) (words : List ℕ) (o : Vec2) (angle : Float) (dir : Vec2) (max : Float) {w : Best} {from to : ℕ}
+    → WalkedAt nano k x floats words o angle dir max w from to → w .tied ≡ isTied (indexIn k floats words x) o angle dir max
+unfolding isTied indexIn
+tie-is k x floats words o angle dir max h = ap (λ (b : Best). b .tied) (h .best-is)

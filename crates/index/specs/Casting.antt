@@ -94,6 +94,11 @@ unfoldable pub castOf : Index → Vec2 → Float → Vec2 → Float → Cast
 unfolding castWithin
 castOf x o angle dir max = castWithin nano x o angle dir max
 
+-- whether it met a further edge at exactly the distance that it answered, which only mode 1 tells
+unfoldable pub isTied : Index → Vec2 → Float → Vec2 → Float → Bool
+unfolding walkOf bucketAt
+isTied x o angle dir max = walkOf nano o dir (x .head .mode) (noneYet max) (bucketAt x angle) .tied
+
 -- the edges that this cast tests
 unfoldable pub testedIn : Index → Vec2 → Float → Vec2 → Float → List LocalEdge
 unfolding testedOf bucketAt

@@ -20,7 +20,7 @@ ghost use Rattle.geom.specs.Constants.{nano};
 ghost use Rattle.geom.specs.Segment.{raySegmentWithin};
 ghost use Rattle.room.specs.Records.{edgeAt};
 ghost use Rattle.index.specs.Spans.{bucketsFor, headOf, bucketOf, clipOf, spansBy, widthOf, covers, edgeBits};
-ghost use Rattle.index.specs.Casting.{lowerOf, betterOf, stopOf, turnedOf, noneYet, walkOf, testedOf, tiesAt, castWithin, castOf};
+ghost use Rattle.index.specs.Casting.{lowerOf, betterOf, stopOf, turnedOf, noneYet, walkOf, testedOf, tiesAt, castBy, castWithin, castOf};
 ghost use Rattle.index.specs.Stands.{indexIn, WalkedAt, Ready, Builds};
 ghost use Rattle.index.specs.Filling.{spansAt, refsTo, notesW, saidOf, saidBy, meetsOf, cutOf, cutBoth, Notable, Notes, tallyOf, Marked, Counting, Counted, Endable, Ended, PutRoom, PutBoth, Putting, Placed, Fillable, Filled};
 
@@ -354,6 +354,16 @@ pub fn walk_at(
     walk(k, slack, floats, words, from, to, o, dir, x.mode, max)
 }
 
+// What a cast whose walk came to b answers.
+pub fn hit_of(b: Best) -> Cast
+    ensures { λ r. ⌜ r ≡ castBy b ⌝ }
+{
+    if b.found {
+        return Cast::Hit(b.t, b.edge);
+    }
+    Cast::Miss
+}
+
 // The nearest edge that the ray from o along dir, at the angle from the cone's start, hits within max. `slack` is that of `ray_segment_within`.
 pub fn cast_within(
     slack: f64,
@@ -369,11 +379,7 @@ pub fn cast_within(
     ensures { λ r. ⌜ r ≡ castWithin slack (indexIn k (now (floats .entry)) (now (words .entry)) x) o angle dir max ⌝ }
 {
     let w = walk_at(slack, k, x, floats, words, o, angle, dir, max);
-    let b = w.best;
-    if b.found {
-        return Cast::Hit(b.t, b.edge);
-    }
-    Cast::Miss
+    hit_of(w.best)
 }
 
 // `AngularIndex::cast` of the Rust: the slack is 1e-9.

@@ -30,13 +30,13 @@ use Rattle.cone.specs.declared.View.{View}
 use Rattle.room.specs.declared.Rooms.{Rooms}
 use Rattle.room.specs.declared.Sample.{Sample}
 use Rattle.room.specs.Layout.{samplesF, floatsFor, samplesW, orderW, seenW}
-use Rattle.room.specs.Records.{sampleAt, samplesIn, Directed}
-use Rattle.room.proofs.Kept.{sample-kept, samples-kept}
+use Rattle.room.specs.Records.{sampleAt, samplesIn, tieAt, Noted}
+use Rattle.room.proofs.Kept.{sample-kept, samples-kept, tie-kept}
 use Rattle.index.specs.declared.AngularIndex.{AngularIndex}
 use Rattle.index.specs.Angular.{Index}
 use Rattle.index.specs.Stands.{indexIn}
 use Rattle.index.proofs.Kept.{within-behind, index-behind}
-use Rattle.rays.specs.Samples.{samplesOf, earlier, orderedOf, castRay, raysCast}
+use Rattle.rays.specs.Samples.{samplesOf, earlier, orderedOf, Lone, castRay, raysCast}
 use Rattle.rays.specs.Stands.{turnAt, raysIn, Held, Emits, Castable, Casts, Sampling, Sampled}
 use Rattle.rays.proofs.Answers.{map-listed}
 
@@ -122,7 +122,7 @@ module _ (k : Rooms) (view : View) (x : AngularIndex) (events : ℕ) (f₀ : Lis
     over = sym (lt-ltb (k .samples) n h);
     rays = λ q. absurd (let z : _≡_ {A = ℕ} 0 1 = cc in omega arith);
     below = λ q. absurd (let z : _≡_ {A = ℕ} 0 1 = cc in omega arith);
-    dirs = λ q. absurd (let z : _≡_ {A = ℕ} 0 1 = cc in omega arith);
+    noted = λ q. absurd (let z : _≡_ {A = ℕ} 0 1 = cc in omega arith);
     floats = e .floats;
     words = only-wider (samplesW k) (seenW k) (omega arith) (omega arith) (e .words);
   }
@@ -144,10 +144,13 @@ module _ (k : Rooms) (view : View) (x : AngularIndex) (events : ℕ) (f₀ : Lis
         small = u;
       }
 
+      first-index : indexIn k f₁ w₁ x ≡ indexIn k f₀ w₀ x
+      first-index = index-behind k f₀ f₁ w₀ w₁ x (pre .sound) (e .floats) (e .words) (omega arith) (omega arith)
+
       -- the samples with their answers
       answers : samplesIn k f₂ w₂ n ≡ map (castRay view (indexIn k f₀ w₀ x)) (samplesOf view (turnAt k f₀ w₀) events)
       answers =
-          cs .list ∙ ap (λ (q : Index). map (castRay view q) (samplesIn k f₁ w₁ n)) (index-behind k f₀ f₁ w₀ w₁ x (pre .sound) (e .floats) (e .words) (omega arith) (omega arith))
+          cs .list ∙ ap (λ (q : Index). map (castRay view q) (samplesIn k f₁ w₁ n)) first-index
           ∙ ap (map (castRay view (indexIn k f₀ w₀ x))) (sampled .list few)
 
       pub all-done : (w₃ : List ℕ) → Ordered (keyOrderIf (part at (at + n) f₂) n) c z w₂ w₃ → Sampled k view x events f₀ w₀ (record { samples = n; over = false }) f₂ w₃
@@ -163,14 +166,18 @@ module _ (k : Rooms) (view : View) (x : AngularIndex) (events : ℕ) (f₀ : Lis
           let at : getD w₃ (orderW k + t) 0 ≡ getD order t 0 = ap (λ (q : ℕ). getD w₃ (q + t) 0) (sym hc) ∙ getD-has w₃ c order t 0 has (omega arith) in
           let b : getD order t 0 < n = all-at (λ i. i < n) order t 0 (order-if-below (part (samplesF k) (samplesF k + n) f₂) n) (omega arith) in
           omega arith in
-          let dirs : Directed k (view .start) f₂ w₃ n = λ t l.
+          let noted : Noted k (view .start) (Lone view (indexIn k f₀ w₀ x)) f₂ w₃ n = λ t l.
           let j = getD w₃ (orderW k + t) 0 in
-          cs .dirs j (place t l) ∙ ap (λ (q : Sample). fromAngleOf (view .start ⊕ q .angle)) (sym (sample-kept k f₂ f₂ w₂ w₃ j (omega (arith, place t l)) refl stay)) in
+          let in-room : j < k .samples = omega (arith, place t l) in
+          let same : sampleAt k f₂ w₂ j ≡ sampleAt k f₂ w₃ j = sym (sample-kept k f₂ f₂ w₂ w₃ j in-room refl stay) in (
+            cs .dirs j (place t l) ∙ ap (λ (q : Sample). fromAngleOf (view .start ⊕ q .angle)) same,
+            λ z. subst (Lone view (indexIn k f₀ w₀ x)) same (subst (λ (q : Index). Lone view q (sampleAt k f₂ w₂ j)) first-index (cs .ties j (place t l) (sym (tie-kept k f₂ f₂ w₂ w₃ j in-room stay) ∙ z))),
+          ) in
           record {
             samples = sampled .count;
             over = sym (le-ltb (k .samples) n few);
             below = λ _ t l. omega (arith, place t l);
-            dirs = λ _. dirs;
+            noted = λ _. noted;
             rays = λ _. ordered-is k f₂ w₃ n fits few c hc has ∙ ap orderedOf (kept ∙ answers) ∙ order-cast view (indexIn k f₀ w₀ x) (samplesOf view (turnAt k f₀ w₀) events);
             floats = only-trans (e .floats) (only-wider (samplesF k) (floatsFor k) (omega arith) (omega arith) (cs .floats));
             words = only-trans (only-wider (samplesW k) (seenW k) (omega arith) (omega arith) (only-trans (e .words) (cs .words))) (only-wider (samplesW k) (seenW k) (omega arith) (omega arith) o');

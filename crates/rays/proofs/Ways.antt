@@ -19,10 +19,10 @@ use Rattle.room.specs.declared.Merged.{Merged}
 use Rattle.room.specs.declared.Sample.{Sample}
 use Rattle.room.specs.Records.{mergedAt}
 use Rattle.index.specs.Angular.{Index}
-use Rattle.index.specs.Casting.{castOf}
+use Rattle.index.specs.Casting.{castOf, isTied}
 use Rattle.rays.specs.declared.Aim.{Aim}
 use Rattle.room.specs.Constants.{angleEps}
-use Rattle.rays.specs.Samples.{stepOf, wrapOf, aimBy, aimOf, Turn, sampleOf, rayOf, raysOf, hitOf}
+use Rattle.rays.specs.Samples.{stepOf, wrapOf, aimBy, aimOf, Turn, sampleOf, rayOf, raysOf, hitOf, tiedOn}
 use Rattle.rays.specs.Stands.{turnAt}
 
 module _ (view : View) (event : Float) (offset : ℕ) {s : Float} (hs : s ≡ stepOf offset) where
@@ -78,3 +78,8 @@ pub cast-is : (view : View) (x : Index) (whole : Sample) {s : Sample} {d : Vec2}
 unfolding hitOf
 cast-is view x whole {s} hs hd e =
     e ∙ ap (λ (q : Vec2). castOf x (view .o) (s .angle) q (view .r)) hd ∙ ap (λ (q : Sample). castOf x (view .o) (q .angle) (fromAngleOf (view .start ⊕ q .angle)) (view .r)) hs
+
+pub tied-is : (view : View) (x : Index) (whole : Sample) {s : Sample} {d : Vec2} {r : Bool} → s ≡ whole → d ≡ fromAngleOf (view .start ⊕ s .angle) → r ≡ isTied x (view .o) (s .angle) d (view .r) → r ≡ tiedOn view x (whole .angle)
+unfolding tiedOn
+tied-is view x whole {s} hs hd e =
+    e ∙ ap (λ (q : Vec2). isTied x (view .o) (s .angle) q (view .r)) hd ∙ ap (λ (q : Sample). isTied x (view .o) (q .angle) (fromAngleOf (view .start ⊕ q .angle)) (view .r)) hs

@@ -1,7 +1,8 @@
 -- The rays of an outline: one on each side of every event and an exact one at a sector's side, in order of angle, each cast in turn
 -- (`visibility.rs`, lines 380 to 417). Document 01: "Each sample holds its angle, event, offset and that answer"; samples are cast in turn.
 -- An offset is 0 before the event, 1 at it and 2 after it: the Rust's -1, 0 and 1. Definitions only.
-use mathlib.Core.Bool.{Bool, true, cond}
+use mathlib.Core.Path.{_≡_}
+use mathlib.Core.Bool.{Bool, true, false, cond}
 use mathlib.Core.List.{List, [], _++_, map}
 use Prim.Native.Nat.{ℕ}
 use lib.Dec.{eqb}
@@ -14,14 +15,14 @@ use Rattle.geom.specs.Segment.{within}
 use Rattle.geom.specs.Vec.{fromAngleOf}
 use Rattle.cone.specs.declared.View.{View}
 use Rattle.site.specs.declared.Cast.{Cast}
-use Rattle.site.specs.declared.Cast.the-variants.{Miss}
+use Rattle.site.specs.declared.Cast.the-variants.{Hit, Miss}
 use Rattle.sorts.specs.Sort.{sort}
 use Rattle.sorts.specs.By.{inOrder}
 use Rattle.room.specs.declared.Sample.{Sample}
 use Rattle.room.specs.Constants.{angleEps}
 use Rattle.room.specs.Records.{withHit}
 use Rattle.index.specs.Angular.{Index}
-use Rattle.index.specs.Casting.{castOf}
+use Rattle.index.specs.Casting.{castOf, isTied}
 use Rattle.rays.specs.declared.Aim.{Aim}
 
 -- `f64::from(offset)`
@@ -81,6 +82,15 @@ hitOf view x angle = castOf x (view .o) angle (fromAngleOf (view .start ⊕ angl
 
 abbrev pub castRay : View → Index → Sample → Sample
 castRay view x s = withHit s (hitOf view x (s .angle))
+
+-- whether it met a further edge at exactly that distance
+unfoldable pub tiedOn : View → Index → Float → Bool
+unfolding isTied
+tiedOn view x angle = isTied x (view .o) angle (fromAngleOf (view .start ⊕ angle)) (view .r)
+
+-- it did not, if it hits
+abbrev pub Lone : View → Index → Sample → Type 0
+Lone view x s = (t : Float) (e : ℕ) → hitOf view x (s .angle) ≡ Hit t e → tiedOn view x (s .angle) ≡ false
 
 -- THE RAYS: in order of angle, each with its answer
 unfoldable pub raysCast : View → Index → List Sample → List Sample

@@ -14,11 +14,11 @@ use Rattle.cone.specs.declared.View.{View}
 use Rattle.room.specs.declared.Rooms.{Rooms}
 use Rattle.room.specs.declared.Sample.{Sample}
 use Rattle.room.specs.Layout.{samplesF, distancesF, floatsFor, samplesW, orderW, seenW, Fit}
-use Rattle.room.specs.Records.{rayAt, mergedAt, sampleAt, samplesIn, dirAt, Directed}
+use Rattle.room.specs.Records.{tieOf, rayAt, mergedAt, sampleAt, samplesIn, dirAt, tieAt, Noted}
 use Rattle.index.specs.declared.AngularIndex.{AngularIndex}
 use Rattle.index.specs.Stands.{indexIn, Within}
 use Rattle.rays.specs.declared.Rays.{Rays}
-use Rattle.rays.specs.Samples.{Turn, samplesOf, castRay, raysCast}
+use Rattle.rays.specs.Samples.{Turn, samplesOf, hitOf, tiedOn, Lone, castRay, raysCast}
 
 -- the merged event i
 unfoldable pub turnAt : Rooms → List Float → List ℕ → ℕ → Turn
@@ -52,10 +52,11 @@ pub record Eventful (k : Rooms) (f : List Float) (w : List ℕ) (events : ℕ) :
   pub fit : Fit k (length f) (length w)
   pub held : events ≤ k .events
 
--- ---- casting the sample i: its answer and its direction are in the room then, and the other samples' are as they were
+-- ---- casting the sample i: its answer, its direction and whether it was tied are in the room then, and the other samples' are as they were
 pub record Answer (k : Rooms) (view : View) (x : AngularIndex) (i : ℕ) (f : List Float) (w : List ℕ) (f' : List Float) (w' : List ℕ) : Type 0 where
   pub hit : Stored (sampleAt k f w) (sampleAt k f' w') (k .samples) i (castRay view (indexIn k f w x) (sampleAt k f w i))
   pub dir : Stored (dirAt k f) (dirAt k f') (k .samples) i (fromAngleOf (view .start ⊕ sampleAt k f w i .angle))
+  pub tie : Stored (tieAt k w) (tieAt k w') (k .samples) i (tieOf (hitOf view (indexIn k f w x) (sampleAt k f w i .angle)) (tiedOn view (indexIn k f w x) (sampleAt k f w i .angle)))
   pub floats : Only (distancesF k) (floatsFor k) f f'
   pub words : Only (samplesW k) (orderW k) w w'
 
@@ -68,6 +69,7 @@ pub record Castable (k : Rooms) (x : AngularIndex) (f : List Float) (w : List �
 pub record Casts (k : Rooms) (view : View) (x : AngularIndex) (n : ℕ) (f : List Float) (w : List ℕ) (f' : List Float) (w' : List ℕ) : Type 0 where
   pub list : samplesIn k f' w' n ≡ map (castRay view (indexIn k f w x)) (samplesIn k f w n)
   pub dirs : (j : ℕ) → j < n → dirAt k f' j ≡ fromAngleOf (view .start ⊕ sampleAt k f' w' j .angle)
+  pub ties : (j : ℕ) → j < n → tieAt k w' j ≡ false → Lone view (indexIn k f w x) (sampleAt k f' w' j)
   pub floats : Only (distancesF k) (floatsFor k) f f'
   pub words : Only (samplesW k) (orderW k) w w'
 
@@ -77,12 +79,12 @@ pub record Sampling (k : Rooms) (x : AngularIndex) (f : List Float) (w : List �
   pub held : events ≤ k .events
   pub sound : Within k w x
 
--- The samples of the merged events in the room: counted, and, where they fit, in order of angle with their answers and their directions
+-- The samples of the merged events in the room: counted, and, where they fit, in order of angle with their answers, their directions and their ties
 pub record Sampled (k : Rooms) (view : View) (x : AngularIndex) (events : ℕ) (f : List Float) (w : List ℕ) (r : Rays) (f' : List Float) (w' : List ℕ) : Type 0 where
   pub samples : r .samples ≡ length (samplesOf view (turnAt k f w) events)
   pub over : r .over ≡ ltb (k .samples) (r .samples)
   pub rays : r .over ≡ false → raysIn k f' w' (r .samples) ≡ raysCast view (indexIn k f w x) (samplesOf view (turnAt k f w) events)
   pub below : r .over ≡ false → (t : ℕ) → t < r .samples → getD w' (orderW k + t) 0 < k .samples
-  pub dirs : r .over ≡ false → Directed k (view .start) f' w' (r .samples)
+  pub noted : r .over ≡ false → Noted k (view .start) (Lone view (indexIn k f w x)) f' w' (r .samples)
   pub floats : Only (samplesF k) (floatsFor k) f f'
   pub words : Only (samplesW k) (seenW k) w w'

@@ -153,7 +153,8 @@ fn sample_events(k: Rooms, view: View, events: u32, floats: &mut [f64], words: &
 
 // ---- their answers
 
-// Casts the ray of the sample i. Its direction is kept beside the answer: the sample's point on the outline goes by it.
+// Casts the ray of the sample i. Its direction is kept beside the answer: the sample's point on the outline goes by it. So is a tie: only where there is one has
+// the outline to ask who else is to be credited.
 fn cast_one(k: Rooms, view: View, x: AngularIndex, floats: &mut [f64], words: &mut [u32], i: u32)
     requires { ⌜ Place k (length (now floats)) (length (now words)) (k .samples) i ⌝ }
     ensures { λ _. ⌜ Answer k view x i (now (floats .entry)) (now (words .entry)) (now (floats .exit)) (now (words .exit)) ⌝ }
@@ -161,8 +162,9 @@ fn cast_one(k: Rooms, view: View, x: AngularIndex, floats: &mut [f64], words: &m
     let s = room::sample_at(k, &*floats, &*words, i);
     let angle = s.angle;
     let dir = Vec2::from_angle(view.start + angle);
-    let h = index::cast(k, x, &*floats, &*words, view.o, angle, dir, view.r);
-    room::put_hit(k, &mut *floats, words, i, h);
+    let w = index::walk_at(1e-9, k, x, &*floats, &*words, view.o, angle, dir, view.r);
+    let b = w.best;
+    room::put_hit(k, &mut *floats, words, i, index::hit_of(b), b.tied);
     room::put_dir(k, floats, i, dir);
 }
 

@@ -121,13 +121,13 @@ module _ {l room : ℕ} {s : Trace} (rd : Ready l room s) where
       g1 = omega (arith, g .grew (c4 ∙ ho), c2)
 
       g2 : s2 .refinements ≡ s .refinements + 1
-      g2 = omega (arith, g .refinements, c1)
+      g2 = omega (arith, g .raised .refinements, c1)
 
       g3 : 2 * s2 .points ≤ l
-      g3 = omega (arith, g .points, c3, rd .points)
+      g3 = omega (arith, g .raised .points, c3, rd .points)
 
       pub ready-left : Ready l room s2
-      ready-left = record { points = g3; owners = g .entries; casts = omega (arith, g1, g2, rd .casts) }
+      ready-left = record { points = g3; owners = g .raised .entries; casts = omega (arith, g1, g2, rd .casts) }
 
       module _ {s3 : Trace} (d3 : Done l room s2 s3) {l3 : ℕ} (e3 : l3 ≡ l) where
         pub push-right : 2 * s3 .points ≤ l3

@@ -27,7 +27,7 @@ use Rattle.index.specs.Casting.{castOf}
 use Rattle.index.specs.Stands.{indexIn}
 use Rattle.outline.specs.declared.Trace.{Trace}
 use Rattle.outline.specs.Outline.{corner, trace, pushOf, Room}
-use Rattle.credit.specs.Credit.{creditsOf, ownAll}
+use Rattle.credit.specs.Credit.{furtherOf, creditsOf, ownAll}
 use Rattle.refining.specs.declared.End.{End}
 use Rattle.refining.specs.declared.Turn.{Turn}
 use Rattle.refining.specs.declared.Turn.the-variants.{Stop, Open, Hidden}
@@ -53,6 +53,10 @@ castIn k x floats words view angle = castOf (indexIn k floats words x) (view .o)
 -- the edges that have an entry where it hits the edge e, by the index
 unfoldable pub creditsFor : View → Index → List ℕ → Float → ℕ → List ℕ
 creditsFor view x owners angle e = creditsOf x owners (view .o) angle (fromAngleOf (view .start ⊕ angle)) (view .r) e
+
+-- the further ones alone
+abbrev pub furtherIn : Rooms → AngularIndex → List Float → List ℕ → List ℕ → View → Float → List ℕ
+furtherIn k x floats words owners view angle = furtherOf (indexIn k floats words x) owners (view .o) angle (fromAngleOf (view .start ⊕ angle)) (view .r)
 
 abbrev pub creditsIn : Rooms → AngularIndex → List Float → List ℕ → List ℕ → View → Float → ℕ → List ℕ
 creditsIn k x floats words owners view angle e = creditsFor view (indexIn k floats words x) owners angle e

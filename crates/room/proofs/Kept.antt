@@ -1,13 +1,13 @@
 -- What stands in the room stays where its stretches stay. A stretch stays where another one is all that was written (`only-part` of the crate
 -- `lists`). Assumes nothing.
-use mathlib.Core.Path.{_≡_, refl}
+use mathlib.Core.Path.{_≡_, refl, ap}
 use mathlib.Core.Bool.{false}
 use mathlib.Core.List.{List}
 use Prim.Native.Nat.{ℕ, _+_, _*_, _≤_, _<_}
 use native.Mathlib.Omega.{arith}
 use lib.ListN.{getD}
 use lib.Ieee.{Float, nan}
-use lib.Dec.{ltb}
+use lib.Dec.{eqb, ltb}
 use borrow.Author.Tests.{ltb-false}
 use Rattle.lists.specs.Parts.{part}
 use Rattle.lists.proofs.AllTo.{neither}
@@ -15,7 +15,7 @@ use Rattle.lists.proofs.Only.{part-getD}
 use Rattle.lists.proofs.Joined.{listed-ext}
 use Rattle.room.specs.declared.Rooms.{Rooms}
 use Rattle.room.specs.Layout.{edgesF, eventsF, mergedF, samplesF, distancesF, dirsF, floatsFor, edgesW, nearestW, eventsW, turnsW, mergedW, cornersW, samplesW, orderW, wordsFor, Fit, isShort}
-use Rattle.room.specs.Records.{edgeAt, eventAt, mergedAt, sampleAt, dirAt, edgesIn, eventsIn, mergedIn, samplesIn}
+use Rattle.room.specs.Records.{edgeAt, eventAt, mergedAt, sampleAt, dirAt, tieAt, edgesIn, eventsIn, mergedIn, samplesIn}
 
 -- from f and w to f' and w'
 module _ (k : Rooms) (f f' : List Float) (w w' : List ℕ) where
@@ -70,6 +70,10 @@ module _ (k : Rooms) (f f' : List Float) (w w' : List ℕ) where
       let a : getD f' (dirsF k + 2 * i) nan ≡ getD f (dirsF k + 2 * i) nan = part-getD (dirsF k) (floatsFor k) f f' _ nan p (omega arith) (omega arith) in
       let b : getD f' (dirsF k + 2 * i + 1) nan ≡ getD f (dirsF k + 2 * i + 1) nan = part-getD (dirsF k) (floatsFor k) f f' _ nan p (omega arith) (omega arith) in
       rw (a, b)
+
+  pub tie-kept : (i : ℕ) → i < k .samples → part (samplesW k) (orderW k) w' ≡ part (samplesW k) (orderW k) w → tieAt k w' i ≡ tieAt k w i
+  unfolding tieAt
+  tie-kept i h q = ap (λ (m : ℕ). eqb m 2) (part-getD (samplesW k) (orderW k) w w' (samplesW k + 4 * i + 2) 0 q (omega arith) (omega arith))
 
   -- ---- the first n of each list
 

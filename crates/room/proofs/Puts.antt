@@ -1,6 +1,6 @@
 -- What the writes of the room do, over plain lists: the entry is the record written, the other entries stay, and nothing but the list's own
 -- stretches is written. Assumes nothing.
-use mathlib.Core.Path.{_≡_, refl, _∙_}
+use mathlib.Core.Path.{_≡_, refl, ap, _∙_}
 use mathlib.Core.Logic.{_⊎_, inl, inr, ⊎-elim}
 use mathlib.Core.Bool.{Bool, true, false}
 use mathlib.Core.List.{List, [], _∷_}
@@ -23,7 +23,7 @@ use Rattle.room.specs.declared.Event.{Event}
 use Rattle.room.specs.declared.Merged.{Merged}
 use Rattle.room.specs.declared.Sample.{Sample}
 use Rattle.room.specs.Layout.{edgesF, eventsF, mergedF, samplesF, distancesF, dirsF, floatsFor, edgesW, nearestW, eventsW, turnsW, mergedW, cornersW, samplesW, orderW}
-use Rattle.room.specs.Records.{sixOf, tagOf, distanceOf, numberOf, castFrom, edgeAt, eventAt, mergedAt, sampleAt, dirAt, withHit, EdgePut, EventPut, MergedPut, SamplePut, HitPut, DirPut}
+use Rattle.room.specs.Records.{sixOf, tagOf, distanceOf, numberOf, castFrom, tieOf, edgeAt, eventAt, mergedAt, sampleAt, tieAt, dirAt, withHit, EdgePut, EventPut, MergedPut, SamplePut, HitPut, DirPut}
 
 -- a number and another one: below it or past it
 apart : (j i : ℕ) → (j ≡ i → ⊥) → (j < i) ⊎ (i < j)
@@ -33,9 +33,15 @@ bit-back : (b : Bool) → eqb (bit b) 1 ≡ b
 bit-back true = refl
 bit-back false = refl
 
-cast-back : (h : Cast) → castFrom (tagOf h) (distanceOf h) (numberOf h) ≡ h
-cast-back (Hit t e) = refl
-cast-back Miss = refl
+cast-back : (h : Cast) (tied : Bool) → castFrom (tagOf h tied) (distanceOf h) (numberOf h) ≡ h
+cast-back (Hit t e) true = refl
+cast-back (Hit t e) false = refl
+cast-back Miss tied = refl
+
+tie-back : (h : Cast) (tied : Bool) → eqb (tagOf h tied) 2 ≡ tieOf h tied
+tie-back (Hit t e) true = refl
+tie-back (Hit t e) false = refl
+tie-back Miss tied = refl
 
 -- a number stored in a part that was lent, and a part that was lent and came back as a list
 module _ {A : Type 0} (l v : List A) where
@@ -141,7 +147,7 @@ module _ (k : Rooms) (i : ℕ) (f : List Float) (w : List ℕ) where
 
   -- ---- a sample: its angle, its distance, and its event, offset, tag and edge
 
-  module _ (s : Sample) (f₁ f' : List Float) (w' : List ℕ) (h : i < k .samples) (p : Laid (samplesF k + i) 1 (s .angle ∷ []) f f₁) (q : Laid (distancesF k + i) 1 (distanceOf (s .hit) ∷ []) f₁ f') (r : Laid (samplesW k + 4 * i) 4 (s .event ∷ s .offset ∷ tagOf (s .hit) ∷ numberOf (s .hit) ∷ []) w w') where
+  module _ (s : Sample) (f₁ f' : List Float) (w' : List ℕ) (h : i < k .samples) (p : Laid (samplesF k + i) 1 (s .angle ∷ []) f f₁) (q : Laid (distancesF k + i) 1 (distanceOf (s .hit) ∷ []) f₁ f') (r : Laid (samplesW k + 4 * i) 4 (s .event ∷ s .offset ∷ tagOf (s .hit) false ∷ numberOf (s .hit) ∷ []) w w') where
     sample-here : sampleAt k f' w' i ≡ s
     unfolding sampleAt
     sample-here =
@@ -149,7 +155,7 @@ module _ (k : Rooms) (i : ℕ) (f : List Float) (w : List ℕ) where
         let t : getD f' (distancesF k + i) nan ≡ distanceOf (s .hit) = q .at 0 (distancesF k + i) nan (omega arith) (omega arith) in
         let b : getD w' (samplesW k + 4 * i) 0 ≡ s .event = r .at 0 (samplesW k + 4 * i) 0 (omega arith) (omega arith) in
         let c : getD w' (samplesW k + 4 * i + 1) 0 ≡ s .offset = r .at 1 (samplesW k + 4 * i + 1) 0 (omega arith) (omega arith) in
-        let d : getD w' (samplesW k + 4 * i + 2) 0 ≡ tagOf (s .hit) = r .at 2 (samplesW k + 4 * i + 2) 0 (omega arith) (omega arith) in
+        let d : getD w' (samplesW k + 4 * i + 2) 0 ≡ tagOf (s .hit) false = r .at 2 (samplesW k + 4 * i + 2) 0 (omega arith) (omega arith) in
         let u : getD w' (samplesW k + 4 * i + 3) 0 ≡ numberOf (s .hit) = r .at 3 (samplesW k + 4 * i + 3) 0 (omega arith) (omega arith) in
         rw (a, t, b, c, d, u, cast-back)
 
@@ -174,7 +180,7 @@ module _ (k : Rooms) (i : ℕ) (f : List Float) (w : List ℕ) where
 
   -- ---- an answer of a sample: its distance, and its tag and edge
 
-  module _ (g : Cast) (f' : List Float) (w' : List ℕ) (h : i < k .samples) (p : Laid (distancesF k + i) 1 (distanceOf g ∷ []) f f') (q : Laid (samplesW k + 4 * i + 2) 2 (tagOf g ∷ numberOf g ∷ []) w w') where
+  module _ (g : Cast) (tied : Bool) (f' : List Float) (w' : List ℕ) (h : i < k .samples) (p : Laid (distancesF k + i) 1 (distanceOf g ∷ []) f f') (q : Laid (samplesW k + 4 * i + 2) 2 (tagOf g tied ∷ numberOf g ∷ []) w w') where
     hit-here : sampleAt k f' w' i ≡ withHit (sampleAt k f w i) g
     unfolding sampleAt
     hit-here =
@@ -182,7 +188,7 @@ module _ (k : Rooms) (i : ℕ) (f : List Float) (w : List ℕ) where
         let t : getD f' (distancesF k + i) nan ≡ distanceOf g = p .at 0 (distancesF k + i) nan (omega arith) (omega arith) in
         let b : getD w' (samplesW k + 4 * i) 0 ≡ getD w (samplesW k + 4 * i) 0 = only-getD (samplesW k + 4 * i) 0 (q .only) (inl (omega arith)) in
         let c : getD w' (samplesW k + 4 * i + 1) 0 ≡ getD w (samplesW k + 4 * i + 1) 0 = only-getD (samplesW k + 4 * i + 1) 0 (q .only) (inl (omega arith)) in
-        let d : getD w' (samplesW k + 4 * i + 2) 0 ≡ tagOf g = q .at 0 (samplesW k + 4 * i + 2) 0 (omega arith) (omega arith) in
+        let d : getD w' (samplesW k + 4 * i + 2) 0 ≡ tagOf g tied = q .at 0 (samplesW k + 4 * i + 2) 0 (omega arith) (omega arith) in
         let u : getD w' (samplesW k + 4 * i + 3) 0 ≡ numberOf g = q .at 1 (samplesW k + 4 * i + 3) 0 (omega arith) (omega arith) in
         rw (a, t, b, c, d, u, cast-back)
 
@@ -197,12 +203,23 @@ module _ (k : Rooms) (i : ℕ) (f : List Float) (w : List ℕ) where
         let u : getD w' (samplesW k + 4 * j + 3) 0 ≡ getD w (samplesW k + 4 * j + 3) 0 = only-getD (samplesW k + 4 * j + 3) 0 (q .only) (⊎-elim (λ l. inl (omega arith)) (λ l. inr (omega arith)) n) in
         rw (a, t, b, c, d, u)
 
-    pub hit-put : HitPut k i g f w f' w'
+    tie-here : tieAt k w' i ≡ tieOf g tied
+    unfolding tieAt
+    tie-here = ap (λ (m : ℕ). eqb m 2) (q .at 0 (samplesW k + 4 * i + 2) 0 (omega arith) (omega arith)) ∙ tie-back g tied
+
+    tie-others : (j : ℕ) → (j < i) ⊎ (i < j) → tieAt k w' j ≡ tieAt k w j
+    unfolding tieAt
+    tie-others j n = ap (λ (m : ℕ). eqb m 2) (only-getD (samplesW k + 4 * j + 2) 0 (q .only) (⊎-elim (λ l. inl (omega arith)) (λ l. inr (omega arith)) n))
+
+    pub hit-put : HitPut k i g tied f w f' w'
     hit-put =
         record {
-          entry = record { here = hit-here; others = λ j g n. hit-others j g (apart j i n) };
-          floats = only-wider (distancesF k) (dirsF k) (omega arith) (omega arith) (p .only);
-          words = only-wider (samplesW k) (orderW k) (omega arith) (omega arith) (q .only);
+          put = record {
+            entry = record { here = hit-here; others = λ j g n. hit-others j g (apart j i n) };
+            floats = only-wider (distancesF k) (dirsF k) (omega arith) (omega arith) (p .only);
+            words = only-wider (samplesW k) (orderW k) (omega arith) (omega arith) (q .only);
+          };
+          tie = record { here = tie-here; others = λ j g n. tie-others j (apart j i n) };
         }
 
 -- ---- a direction of a sample, of floats alone

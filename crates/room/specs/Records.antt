@@ -2,7 +2,7 @@
 -- what a write of one does. A bool is 1 or 0. Document 01: "Each sample holds its angle, event, offset and that answer".
 -- Definitions only.
 use mathlib.Core.Path.{_≡_}
-use mathlib.Core.Bool.{cond}
+use mathlib.Core.Bool.{Bool, false, cond}
 use mathlib.Core.List.{List, [], _∷_}
 use Prim.Native.Nat.{ℕ, _+_, _*_, _<_}
 use lib.ListN.{getD}
@@ -22,10 +22,10 @@ use Rattle.room.specs.declared.Merged.{Merged}
 use Rattle.room.specs.declared.Sample.{Sample}
 use Rattle.room.specs.Layout.{edgesF, eventsF, mergedF, samplesF, distancesF, dirsF, floatsFor, edgesW, nearestW, eventsW, turnsW, mergedW, cornersW, samplesW, orderW}
 
--- ---- an answer of a cast as three numbers: 1, the distance and the edge, or zeros for a miss
-abbrev pub tagOf : Cast → ℕ
-tagOf (Hit t e) = 1
-tagOf Miss = 0
+-- ---- an answer of a cast as three numbers: 1, or 2 where it was tied, the distance and the edge, or zeros for a miss
+abbrev pub tagOf : Cast → Bool → ℕ
+tagOf (Hit t e) tied = cond tied 2 1
+tagOf Miss tied = 0
 
 abbrev pub distanceOf : Cast → Float
 distanceOf (Hit t e) = t
@@ -36,7 +36,12 @@ numberOf (Hit t e) = e
 numberOf Miss = 0
 
 abbrev pub castFrom : ℕ → Float → ℕ → Cast
-castFrom tag t e = cond (eqb tag 1) (Hit t e) Miss
+castFrom tag t e = cond (eqb tag 0) Miss (Hit t e)
+
+-- the tie that is noted: a miss has none
+abbrev pub tieOf : Cast → Bool → Bool
+tieOf (Hit t e) tied = tied
+tieOf Miss tied = false
 
 -- ---- the records
 -- an edge's own numbers, in their order
@@ -80,6 +85,10 @@ sampleAt k floats words i = record {
   hit = castFrom (getD words (samplesW k + 4 * i + 2) 0) (getD floats (distancesF k + i) nan) (getD words (samplesW k + 4 * i + 3) 0);
 }
 
+-- whether the answer of the sample i was tied: a cast met a further edge at exactly the distance that it answered
+unfoldable pub tieAt : Rooms → List ℕ → ℕ → Bool
+tieAt k words i = eqb (getD words (samplesW k + 4 * i + 2) 0) 2
+
 -- the direction of the sample i
 unfoldable pub dirAt : Rooms → List Float → ℕ → Vec2
 dirAt k floats i = vec (getD floats (dirsF k + 2 * i) nan) (getD floats (dirsF k + 2 * i + 1) nan)
@@ -88,10 +97,13 @@ dirAt k floats i = vec (getD floats (dirsF k + 2 * i) nan) (getD floats (dirsF k
 abbrev pub rayAt : Rooms → List Float → List ℕ → ℕ → Sample
 rayAt k floats words t = sampleAt k floats words (getD words (orderW k + t) 0)
 
--- the n samples in order of angle have their directions in the room: those of their angles, which are counted from `start`
-abbrev pub Directed : Rooms → Float → List Float → List ℕ → ℕ → Type 0
-Directed k start floats words n =
-    (t : ℕ) → t < n → dirAt k floats (getD words (orderW k + t) 0) ≡ fromAngleOf (start ⊕ rayAt k floats words t .angle)
+-- what stands in the room beside the n samples in order of angle: their directions, those of their angles, which are counted from `start`; and where no tie is
+-- noted, something holds of the sample
+abbrev pub Noted : Rooms → Float → (Sample → Type 0) → List Float → List ℕ → ℕ → Type 0
+Noted k start Alone floats words n =
+    (t : ℕ) → t < n
+    → (dirAt k floats (getD words (orderW k + t) 0) ≡ fromAngleOf (start ⊕ rayAt k floats words t .angle))
+    × (tieAt k words (getD words (orderW k + t) 0) ≡ false → Alone (rayAt k floats words t))
 
 -- ---- the lists: the first n of each
 abbrev pub edgesIn : Rooms → List Float → List ℕ → ℕ → List LocalEdge
@@ -129,8 +141,9 @@ SamplePut k i s f w f' w' = Put (sampleAt k f w) (sampleAt k f' w') (k .samples)
 abbrev pub withHit : Sample → Cast → Sample
 withHit s h = record { angle = s .angle; event = s .event; offset = s .offset; hit = h }
 
-abbrev pub HitPut : Rooms → ℕ → Cast → List Float → List ℕ → List Float → List ℕ → Type 0
-HitPut k i h f w f' w' = Put (sampleAt k f w) (sampleAt k f' w') (k .samples) i (withHit (sampleAt k f w i) h) (distancesF k) (dirsF k) f f' (samplesW k) (orderW k) w w'
+pub record HitPut (k : Rooms) (i : ℕ) (h : Cast) (tied : Bool) (f : List Float) (w : List ℕ) (f' : List Float) (w' : List ℕ) : Type 0 where
+  pub put : Put (sampleAt k f w) (sampleAt k f' w') (k .samples) i (withHit (sampleAt k f w i) h) (distancesF k) (dirsF k) f f' (samplesW k) (orderW k) w w'
+  pub tie : Stored (tieAt k w) (tieAt k w') (k .samples) i (tieOf h tied)
 
 -- a direction is of floats alone
 pub record DirPut (k : Rooms) (i : ℕ) (d : Vec2) (f f' : List Float) : Type 0 where

@@ -12,7 +12,7 @@ ghost use Prim.Native.Nat.{_≤_, _<_};
 ghost use lib.ListN.{length};
 ghost use Rattle.lists.specs.Lists.{bit};
 ghost use Rattle.room.specs.Layout.{edgesF, eventsF, mergedF, samplesF, distancesF, dirsF, floatsFor, edgesW, nearestW, eventsW, turnsW, mergedW, cornersW, startsW, refsW, samplesW, orderW, seenW, wordsFor, isShort, Place};
-ghost use Rattle.room.specs.Records.{sixOf, tagOf, distanceOf, numberOf, castFrom, edgeAt, eventAt, mergedAt, sampleAt, dirAt, EdgePut, EventPut, MergedPut, SamplePut, HitPut, DirPut};
+ghost use Rattle.room.specs.Records.{sixOf, tagOf, distanceOf, numberOf, castFrom, edgeAt, eventAt, mergedAt, sampleAt, dirAt, tieAt, EdgePut, EventPut, MergedPut, SamplePut, HitPut, DirPut};
 
 // How many entries the caller allows to each list: ids of the box query, front edges, unmerged events, kept-aside corners, samples, bucket
 // starts, angular references, owners, and corners seen at one event.
@@ -213,13 +213,18 @@ pub fn is_short(k: Rooms, floats: usize, words: usize) -> bool
     (floats < floats_for(k)) | (words < words_for(k))
 }
 
-// ---- an answer of a cast as three numbers: 1 and the distance and the edge, or zeros for a miss
+// ---- an answer of a cast as three numbers: 1, or 2 where it was tied, and the distance and the edge, or zeros for a miss
 
-fn tag_of(h: Cast) -> u32
-    ensures { λ r. ⌜ r ≡ tagOf h ⌝ }
+fn tag_of(h: Cast, tied: bool) -> u32
+    ensures { λ r. ⌜ r ≡ tagOf h tied ⌝ }
 {
     match h {
-        Cast::Hit(_, _) => 1,
+        Cast::Hit(_, _) => {
+            if tied {
+                return 2;
+            }
+            1
+        }
         Cast::Miss => 0,
     }
 }
@@ -245,10 +250,10 @@ fn number_of(h: Cast) -> u32
 fn cast_from(tag: u32, t: f64, e: u32) -> Cast
     ensures { λ r. ⌜ r ≡ castFrom tag t e ⌝ }
 {
-    if tag == 1 {
-        return Cast::Hit(t, e);
+    if tag == 0 {
+        return Cast::Miss;
     }
-    Cast::Miss
+    Cast::Hit(t, e)
 }
 
 // ---- reading
@@ -319,6 +324,14 @@ pub fn sample_at(k: Rooms, floats: &[f64], words: &[u32], i: u32) -> Sample
         offset: lists::at32(words, at + 1),
         hit,
     }
+}
+
+// Was the answer of the sample i tied?
+pub fn tie_at(k: Rooms, words: &[u32], i: u32) -> bool
+    ensures { λ r. ⌜ r ≡ tieAt k (now (words .entry)) i ⌝ }
+{
+    let at = samples_w(k) + 4 * lists::wide(i);
+    lists::at32(words, at + 2) == 2
 }
 
 // The direction of the sample i.
@@ -452,15 +465,15 @@ pub fn put_sample(k: Rooms, floats: &mut [f64], words: &mut [u32], i: u32, s: Sa
         &mut words[at..end],
         s.event,
         s.offset,
-        tag_of(h),
+        tag_of(h, false),
         number_of(h),
     );
 }
 
-// Makes h the answer of the sample i, and leaves its angle, event and offset.
-pub fn put_hit(k: Rooms, floats: &mut [f64], words: &mut [u32], i: u32, h: Cast)
+// Makes h the answer of the sample i, with a note whether it was tied, and leaves its angle, event and offset.
+pub fn put_hit(k: Rooms, floats: &mut [f64], words: &mut [u32], i: u32, h: Cast, tied: bool)
     requires { ⌜ Place k (length (now floats)) (length (now words)) (k .samples) i ⌝ }
-    ensures { λ _. ⌜ HitPut k i h (now (floats .entry)) (now (words .entry)) (now (floats .exit)) (now (words .exit)) ⌝ }
+    ensures { λ _. ⌜ HitPut k i h tied (now (floats .entry)) (now (words .entry)) (now (floats .exit)) (now (words .exit)) ⌝ }
 {
     let n = lists::wide(i);
     let mid = distances_f(k);
@@ -468,7 +481,7 @@ pub fn put_hit(k: Rooms, floats: &mut [f64], words: &mut [u32], i: u32, h: Cast)
     lists::put64(&mut floats[mid..to], n, distance_of(h));
     let at = samples_w(k) + 4 * n + 2;
     let end = at + 2;
-    put_two(&mut words[at..end], tag_of(h), number_of(h));
+    put_two(&mut words[at..end], tag_of(h, tied), number_of(h));
 }
 
 // Makes d the direction of the sample i.

@@ -1,5 +1,5 @@
 -- The index and the rays: one law for each way through `cast_rays`. Assumes nothing.
-use mathlib.Core.Path.{_≡_, refl, sym, ap, _∙_}
+use mathlib.Core.Path.{_≡_, refl, sym, ap, _∙_, subst}
 use mathlib.Core.Logic.{inl, inr}
 use mathlib.Core.Bool.{true, false, true≢false}
 use mathlib.Core.List.{List}
@@ -9,14 +9,17 @@ use borrow.Author.Tests.{ltb-false}
 use lib.Dec.{ltb}
 use lib.ListN.{length}
 use lib.Ieee.{Float}
+use Rattle.num.specs.Ops.{_⊕_}
 use Rattle.lists.specs.Parts.{part}
 use Rattle.lists.proofs.Only.{only-part}
 use Rattle.lists.proofs.Joined.{length-listed}
+use Rattle.geom.specs.Vec.{fromAngleOf}
 use Rattle.cone.specs.declared.View.{View}
 use Rattle.room.specs.declared.Rooms.{Rooms}
 use Rattle.room.specs.declared.LocalEdge.{LocalEdge}
-use Rattle.room.specs.Layout.{mergedF, samplesF, mergedW, startsW}
-use Rattle.room.specs.Records.{edgeAt, edgesIn}
+use Rattle.room.specs.declared.Sample.{Sample}
+use Rattle.room.specs.Layout.{mergedF, samplesF, mergedW, startsW, seenW}
+use Rattle.room.specs.Records.{edgeAt, edgesIn, Noted}
 use Rattle.events.specs.Spots.{Spot}
 use Rattle.events.specs.Held.{spotAt, spotsIn, EndsBelow}
 use Rattle.events.proofs.Reading.{spots-kept, ends-kept}
@@ -27,8 +30,13 @@ use Rattle.index.specs.Angular.{Index, indexOf}
 use Rattle.index.specs.Stands.{indexIn, Within, Ready, overOf, Builds}
 use Rattle.index.proofs.Kept.{within-behind, index-behind}
 use Rattle.rays.specs.declared.Rays.{Rays}
-use Rattle.rays.specs.Samples.{samplesOf, raysCast}
+use Rattle.rays.specs.Samples.{samplesOf, hitOf, tiedOn, Lone, raysCast}
 use Rattle.rays.specs.Stands.{turnAt, Sampling, Sampled}
+use Rattle.credit.specs.Credit.{furtherOf}
+use Rattle.credit.proofs.Credits.{further-none}
+use Rattle.sweep.specs.Sweep.{Spared}
+use Rattle.sweep.proofs.Front.{index-front, noted-front}
+use Rattle.stages.specs.declared.Casting.{Casting}
 use Rattle.stages.specs.Drawing.{samplesFor, indexOver, raysOver}
 use Rattle.stages.specs.Held.{Standing, Casted}
 use Rattle.stages.proofs.Gathers.{fit-kept}
@@ -71,7 +79,7 @@ module _ (mode : ℕ) (k : Rooms) (v : View) (edges events : ℕ) (f : List Floa
       few = λ e. absurd (true≢false e);
       rays = λ e. absurd (true≢false e);
       below = λ e. absurd (true≢false e);
-      dirs = λ e. absurd (true≢false e);
+      noted = λ e. absurd (true≢false e);
       index = λ e. absurd (true≢false e);
       within = λ e. absurd (true≢false e);
       spots-stay = λ e. absurd (true≢false e);
@@ -131,9 +139,23 @@ module _ (mode : ℕ) (k : Rooms) (v : View) (edges events : ℕ) (f : List Floa
           few = λ e. ltb-false (k .samples) (r .samples) (sym (R .over) ∙ e);
           rays = λ e. R .rays e ∙ ap (λ (i : Index). raysCast v i (samplesOf v (turnAt k f w1) events)) stands ∙ ap (raysCast v (indexOf mode (v .fov) (edgesIn k f w edges))) samples-is;
           below = λ e. R .below e;
-          dirs = λ e. R .dirs e;
+          noted = λ e. subst (λ (i : Index). Noted k (v .start) (Lone v i) f2 w2 (r .samples)) stands (R .noted e);
           index = λ e. index-behind k f f2 w1 w2 x sound (R .floats) (R .words) (omega arith) (omega arith) ∙ stands;
           within = λ e. within-behind k f f2 w1 w2 x sound (R .floats) (R .words) (omega arith) (omega arith);
           spots-stay = λ e. ap (spotsIn k f2 w2) few-events ∙ spots-kept k f f2 w1 w2 events (S .events-fit) ends-1 merged-kept corners-kept ∙ spots-1;
           ends = λ e. rw few-events (ends-kept k f f2 w1 w2 events (S .events-fit) ends-1 merged-kept corners-kept);
         }
+
+-- ---- where no tie is noted, the cast has no further credits
+module _ (k : Rooms) (x : AngularIndex) (f : List Float) (w owners : List ℕ) (v : View) (i : Index) (stands : indexIn k f w x ≡ i) where
+  spared : (a : Sample) → Lone v i a → Spared k x f w owners v a
+  unfolding hitOf tiedOn
+  spared a lone =
+      ap (λ (q : Index). furtherOf q owners (v .o) (a .angle) (fromAngleOf (v .start ⊕ a .angle)) (v .r)) stands
+      ∙ further-none i owners (v .o) (a .angle) (fromAngleOf (v .start ⊕ a .angle)) (v .r) lone
+
+pub noted-still : (mode : ℕ) (k : Rooms) (v : View) (edges : List LocalEdge) (spots : List Spot) (r : Casting) (f : List Float) (w : List ℕ) → Casted mode k v edges spots r f w → r .over ≡ false → (owners : List ℕ)
+    → Noted k (v .start) (Spared k (r .index) f (part 0 (seenW k) w) owners v) f (part 0 (seenW k) w) (r .samples)
+noted-still mode k v edges spots r f w C fits owners =
+    noted-front k w f (r .samples) (C .few fits) (C .below fits) (v .start) (Lone v (indexOf mode (v .fov) edges)) (Spared k (r .index) f (part 0 (seenW k) w) owners v)
+    (spared k (r .index) f (part 0 (seenW k) w) owners v (indexOf mode (v .fov) edges) (index-front k w f (r .index) (C .within fits) ∙ C .index fits)) (C .noted fits)

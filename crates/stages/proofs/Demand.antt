@@ -140,15 +140,15 @@ module _ (q : Request) (es : List LocalEdge) (sp : List Spot) where
   module _ (ties : q .mode ≡ 0 → ⊥) (g u : Float) (f : ℕ) (h : castAt g ≡ Hit u f) where
     other-credit : (e : ℕ) → In e (credits g f) → (e ≡ f) ⊎ ((y : LocalEdge) × In y (tiedAt g u) × (y .edge ≡ e))
     unfolding hitOf creditsFor
-    other-credit e i = credits-tied (indexFor q es) (q .owners) (viewIn q .o) g (fromAngleOf (viewIn q .start ⊕ g)) (viewIn q .r) f (λ z. ties (sym mode-is ∙ z)) u f h e i
+    other-credit e i = credits-tied (indexFor q es) (q .owners) (viewIn q .o) g (fromAngleOf (viewIn q .start ⊕ g)) (viewIn q .r) f (λ z. ties (sym mode-is ∙ z)) u h e i
 
     answer-credit : In f (credits g f)
     unfolding hitOf creditsFor
-    answer-credit = credits-answer (indexFor q es) (q .owners) (viewIn q .o) g (fromAngleOf (viewIn q .start ⊕ g)) (viewIn q .r) f (λ z. ties (sym mode-is ∙ z)) u f h
+    answer-credit = credits-answer (indexFor q es) (q .owners) (viewIn q .o) g (fromAngleOf (viewIn q .start ⊕ g)) (viewIn q .r) f
 
     tied-credit : (y : LocalEdge) → In y (tiedAt g u) → ownerAt (q .owners) (y .edge) < 4096 → In (ownerAt (q .owners) (y .edge)) (map (ownerAt (q .owners)) (credits g f))
     unfolding hitOf creditsFor
-    tied-credit y i l = credits-every (indexFor q es) (q .owners) (viewIn q .o) g (fromAngleOf (viewIn q .start ⊕ g)) (viewIn q .r) f (λ z. ties (sym mode-is ∙ z)) u f h y i l
+    tied-credit y i l = credits-every (indexFor q es) (q .owners) (viewIn q .o) g (fromAngleOf (viewIn q .start ⊕ g)) (viewIn q .r) f (λ z. ties (sym mode-is ∙ z)) u h y i l
 
   credit-tied : (g u : Float) (f e : ℕ) → castAt g ≡ Hit u f → In e (credits g f) → (y : LocalEdge) × In y (tiedAt g u) × (y .edge ≡ e)
   credit-tied g u f e h i =

@@ -14,13 +14,14 @@ use Rattle.cone.specs.declared.View.{View}
 use Rattle.room.specs.declared.Rooms.{Rooms}
 use Rattle.room.specs.declared.LocalEdge.{LocalEdge}
 use Rattle.room.specs.Layout.{orderW, seenW, Fit}
-use Rattle.room.specs.Records.{edgesIn, Directed}
+use Rattle.room.specs.Records.{edgesIn, Noted}
 use Rattle.fan.specs.Fan.{Fanned, isOver}
 use Rattle.events.specs.Spots.{Spot}
 use Rattle.events.specs.Held.{spotsIn, EndsBelow}
 use Rattle.index.specs.declared.AngularIndex.{AngularIndex}
 use Rattle.index.specs.Angular.{indexOf}
 use Rattle.index.specs.Stands.{indexIn, Within}
+use Rattle.rays.specs.Samples.{Lone}
 use Rattle.rays.specs.Stands.{raysIn}
 use Rattle.refining.specs.Refine.{Run}
 use Rattle.sweep.specs.Sweep.{courseIn, sampleIn, beginOf, sweepOf}
@@ -54,14 +55,14 @@ pub record Gathered (k : Rooms) (v : View) (g : Fanned) (r : Gathering) (f : Lis
   pub spots : r .over ≡ false → r .touch ≡ false → spotsIn k f w (r .events) ≡ spotsFor v g
   pub stand : r .over ≡ false → r .touch ≡ false → Standing k (r .edges) (r .events) f w
 
--- ---- the index and the rays with their directions, from f and w to f' and w': over, or they stand in the room, and the merged events still do
+-- ---- the index and the rays with their directions and ties, from f and w to f' and w': over, or they stand in the room, and the merged events still do
 pub record Casted (mode : ℕ) (k : Rooms) (v : View) (edges : List LocalEdge) (spots : List Spot) (r : Casting) (f : List Float) (w : List ℕ) : Type 0 where
   pub over : r .over ≡ raysOver k v edges spots
   pub samples : r .over ≡ false → r .samples ≡ length (samplesFor v spots)
   pub few : r .over ≡ false → r .samples ≤ k .samples
   pub rays : r .over ≡ false → raysIn k f w (r .samples) ≡ raysFor mode v edges spots
   pub below : r .over ≡ false → (t : ℕ) → t < r .samples → getD w (orderW k + t) 0 < k .samples
-  pub dirs : r .over ≡ false → Directed k (v .start) f w (r .samples)
+  pub noted : r .over ≡ false → Noted k (v .start) (Lone v (indexOf mode (v .fov) edges)) f w (r .samples)
   pub index : r .over ≡ false → indexIn k f w (r .index) ≡ indexOf mode (v .fov) edges
   pub within : r .over ≡ false → Within k w (r .index)
   pub spots-stay : r .over ≡ false → spotsIn k f w (length spots) ≡ spots

@@ -12,9 +12,10 @@ ghost use Prim.Native.Nat.{_≤_};
 ghost use lib.ListN.{length, take};
 ghost use Rattle.lists.specs.Parts.{part};
 ghost use Rattle.room.specs.Layout.{seenW, wordsFor};
-ghost use Rattle.room.specs.Records.{edgesIn, Directed};
+ghost use Rattle.room.specs.Records.{edgesIn, Noted};
 ghost use Rattle.fan.specs.Fan.{fanOf, Ready};
 ghost use Rattle.events.specs.Held.{spotsIn};
+ghost use Rattle.sweep.specs.Sweep.{Spared};
 ghost use Rattle.stages.specs.Drawing.{request, plain, circleBy, spotted, stagedOf};
 ghost use Rattle.stages.specs.Shows.{Shows};
 ghost use Rattle.stages.specs.Held.{Gathered, Standing, Casted, runIn, Traced};
@@ -171,7 +172,7 @@ fn trace(
     outline: &mut [f64],
     visible: &mut [u32],
 ) -> Tracing
-    requires { ⌜ (wordsFor k ≤ length (now words)) × Directed k (view .start) (now floats) (part 0 (seenW k) (now words)) n ⌝ }
+    requires { ⌜ (wordsFor k ≤ length (now words)) × Noted k (view .start) (Spared k x (now floats) (part 0 (seenW k) (now words)) (now owners) view) (now floats) (part 0 (seenW k) (now words)) n ⌝ }
     ensures { λ r. ⌜ Traced (runIn k x (now (floats .entry)) (now (words .entry)) view step (now (points .entry)) (now (polygons .entry)) (now (owners .entry)) n (length (now (outline .entry)))) (length (now (visible .entry))) r (now (outline .exit)) (now (visible .exit)) ⌝ }
 {
     let mut marks = [0u8; 4096];

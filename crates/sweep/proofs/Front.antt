@@ -1,6 +1,6 @@
 -- What the walk reads of the words stands in front of the stretch of the corners seen: it is the same read from that front and from the whole. For who
 -- calls `sweep`, and knows the whole. Assumes nothing.
-use mathlib.Core.Path.{_≡_, refl, sym, _∙_, ap}
+use mathlib.Core.Path.{_≡_, refl, sym, _∙_, ap, subst}
 use mathlib.Core.Logic.{⊎-elim}
 use mathlib.Core.Bool.{not, cond}
 use mathlib.Core.List.{List, [], _∷_, map}
@@ -24,8 +24,8 @@ use Rattle.room.specs.declared.Rooms.{Rooms}
 use Rattle.room.specs.declared.Sample.{Sample}
 use Rattle.room.specs.Layout.{edgesW, nearestW, mergedW, cornersW, startsW, samplesW, orderW, seenW}
 use Rattle.room.specs.declared.Merged.{Merged}
-use Rattle.room.specs.Records.{mergedAt, sampleAt, dirAt, Directed}
-use Rattle.room.proofs.Kept.{merged-kept, sample-kept}
+use Rattle.room.specs.Records.{mergedAt, sampleAt, dirAt, rayAt, tieAt, Noted}
+use Rattle.room.proofs.Kept.{merged-kept, sample-kept, tie-kept}
 use Rattle.index.specs.declared.AngularIndex.{AngularIndex}
 use Rattle.index.specs.Stands.{indexIn, Within}
 use Rattle.index.proofs.Kept.{index-kept}
@@ -59,9 +59,17 @@ module _ (k : Rooms) (words : List ℕ) where
     unfolding sampleIn
     samples-front = listed-ext (sampleIn k floats (part 0 (seenW k) words)) (sampleIn k floats words) n one-front
 
-    pub directed-front : (start : Float) → Directed k start floats words n → Directed k start floats (part 0 (seenW k) words) n
-    directed-front start d i m =
-        ap (dirAt k floats) (front-at (orderW k + i) (omega arith)) ∙ d i m ∙ ap (λ (q : Sample). fromAngleOf (start ⊕ q .angle)) (sym (one-front i m))
+    tie-front : (i : ℕ) → i < n → tieAt k (part 0 (seenW k) words) (getD (part 0 (seenW k) words) (orderW k + i) 0) ≡ tieAt k words (getD words (orderW k + i) 0)
+    tie-front i m =
+        ap (tieAt k (part 0 (seenW k) words)) (front-at (orderW k + i) (omega arith))
+        ∙ tie-kept k floats floats words (part 0 (seenW k) words) (getD words (orderW k + i) 0) (below i m) (front-part (samplesW k) (orderW k) (omega arith))
+
+    -- what holds of a sample may be put in other words
+    pub noted-front : (start : Float) (P Q : Sample → Type 0) → ((a : Sample) → P a → Q a) → Noted k start P floats words n → Noted k start Q floats (part 0 (seenW k) words) n
+    noted-front start P Q f d i m = (
+      ap (dirAt k floats) (front-at (orderW k + i) (omega arith)) ∙ d i m .0 ∙ ap (λ (q : Sample). fromAngleOf (start ⊕ q .angle)) (sym (one-front i m)),
+      λ z. subst Q (sym (one-front i m)) (f (rayAt k floats words i) (d i m .1 (sym (tie-front i m) ∙ z))),
+    )
 
 -- ---- the corners count only at the events of the samples
 abbrev pub withCorners : Course → (ℕ → List ℕ) → Course

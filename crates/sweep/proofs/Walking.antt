@@ -18,7 +18,7 @@ use Rattle.lists.proofs.Joined.{length-listed, getD-listed}
 use Rattle.room.specs.declared.Rooms.{Rooms}
 use Rattle.room.specs.declared.Sample.{Sample}
 use Rattle.room.specs.Layout.{seenW, wordsFor}
-use Rattle.room.specs.Records.{Directed}
+use Rattle.room.specs.Records.{Noted}
 use Rattle.cone.specs.declared.View.{View}
 use Rattle.index.specs.declared.AngularIndex.{AngularIndex}
 use Rattle.outline.specs.declared.Trace.{Trace}
@@ -26,7 +26,7 @@ use Rattle.outline.specs.Outline.{Room}
 use Rattle.refining.specs.Refine.{Run, runAt, Ready, Done}
 use Rattle.sweep.specs.declared.Next.{Next}
 use Rattle.sweep.specs.declared.Next.the-variants.{To, Last}
-use Rattle.sweep.specs.Sweep.{sampleIn, turned, nextOf, nextIn, Course, courseIn, visitOf, walkOf, sweepOf, Walks, Swept}
+use Rattle.sweep.specs.Sweep.{sampleIn, Spared, turned, nextOf, nextIn, Course, courseIn, visitOf, walkOf, sweepOf, Walks, Swept}
 
 module _ (at : ℕ → Sample) (n : ℕ) where
   -- the sample i, and those behind it
@@ -100,8 +100,9 @@ module _ (k : Rooms) (x : AngularIndex) (floats : List Float) (view : View) (ste
     front : part 0 (seenW k) words ≡ part 0 (seenW k) words₀
     front = only-part 0 (seenW k) (so .only) (inl (le-refl (seenW k)))
 
-    pub walk-directed : Directed k (view .start) floats (part 0 (seenW k) words₀) n → Directed k (view .start) floats (part 0 (seenW k) words) n
-    walk-directed d = subst (λ (f : List ℕ). Directed k (view .start) floats f n) (sym front) d
+    pub walk-noted : Noted k (view .start) (Spared k x floats (part 0 (seenW k) words₀) owners view) floats (part 0 (seenW k) words₀) n
+        → Noted k (view .start) (Spared k x floats (part 0 (seenW k) words) owners view) floats (part 0 (seenW k) words) n
+    walk-noted d = subst (λ (f : List ℕ). Noted k (view .start) (Spared k x floats f owners view) floats f n) (sym front) d
 
     pub walk-more : i < n → (words' : List ℕ) (pts' : List Float) (marks' : List ℕ) (t' : Trace)
         → runAt pts' marks' t' ≡ visitOf (courseAt words) (samplesAt words i) (nextIn (view .full) (samplesAt words) n i) (runAt pts marks t)

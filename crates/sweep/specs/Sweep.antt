@@ -19,14 +19,14 @@ use Rattle.room.specs.declared.Rooms.{Rooms}
 use Rattle.room.specs.declared.Sample.{Sample}
 use Rattle.room.specs.Constants.{angleEps}
 use Rattle.room.specs.Layout.{orderW, wordsFor}
-use Rattle.room.specs.Records.{rayAt, dirAt}
+use Rattle.room.specs.Records.{rayAt, dirAt, tieAt}
 use Rattle.cone.specs.declared.View.{View}
 use Rattle.cone.specs.Cone.{three}
 use Rattle.index.specs.declared.AngularIndex.{AngularIndex}
 use Rattle.outline.specs.declared.Trace.{Trace}
 use Rattle.outline.specs.Outline.{corner, none, Out, out, pushOf, Room}
 use Rattle.credit.specs.Credit.{ownAll}
-use Rattle.refining.specs.Refine.{pointOf, Env, envIn, Run, runAt, endOf, refineOf}
+use Rattle.refining.specs.Refine.{pointOf, furtherIn, Env, envIn, Run, runAt, endOf, refineOf}
 use Rattle.seen.specs.Seen.{scene, cornersOf, seeOf}
 use Rattle.sweep.specs.declared.Next.{Next}
 use Rattle.sweep.specs.declared.Next.the-variants.{To, Last}
@@ -39,6 +39,10 @@ sampleIn k floats words i = rayAt k floats words i
 -- its direction
 unfoldable pub dirIn : Rooms → List Float → List ℕ → ℕ → Vec2
 dirIn k floats words i = dirAt k floats (getD words (orderW k + i) 0)
+
+-- whether a tie is noted for it
+unfoldable pub tieIn : Rooms → List ℕ → ℕ → Bool
+tieIn k words i = tieAt k words (getD words (orderW k + i) 0)
 
 -- the two side rays of one event: offsets 0 and 2 stand for -1 and 1
 unfoldable pub isPair : Sample → Sample → Bool
@@ -70,6 +74,14 @@ emitBy Miss view room owners credits angle s =
 
 unfoldable pub emitOf : View → ℕ → List ℕ → (Float → ℕ → List ℕ) → Sample → Run → Run
 emitOf view room owners credits a s = emitBy (a .hit) view room owners credits (a .angle) s
+
+-- its own edge alone
+abbrev pub itself : Float → ℕ → List ℕ
+itself angle e = e ∷ []
+
+-- the cast at its angle has no further credits
+abbrev pub Spared : Rooms → AngularIndex → List Float → List ℕ → List ℕ → View → Sample → Type 0
+Spared k x floats words owners view a = furtherIn k x floats words owners view (a .angle) ≡ []
 
 -- the counts afterwards: within their bounds, no cast more, no owner less
 pub record Emitted (l room : ℕ) (s r : Trace) : Type 0 where

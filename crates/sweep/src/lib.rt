@@ -21,10 +21,11 @@ ghost use Rattle.lists.specs.Parts.{part, Only};
 ghost use Rattle.num.specs.Ops.{_⊕_};
 ghost use Rattle.geom.specs.Vec.{fromAngleOf};
 ghost use Rattle.room.specs.Layout.{seenW, wordsFor};
-ghost use Rattle.room.specs.Records.{Directed};
-ghost use Rattle.outline.specs.Outline.{none, out, Pushed, Room};
-ghost use Rattle.refining.specs.Refine.{creditsIn, envIn, runAt, Ready, Done};
-ghost use Rattle.sweep.specs.Sweep.{sampleIn, dirIn, isPair, arcPoint, arcOf, stepsOf, emitOf, Emitted, gapOf, courseIn, betweenOf, visitOf, nextIn, withPost, beginOf, sweepOf, Walks, Swept};
+ghost use Rattle.room.specs.Records.{Noted};
+ghost use Rattle.outline.specs.Outline.{none, out, Pushed, owned, Room};
+ghost use Rattle.credit.specs.Credit.{ownAll, Raised};
+ghost use Rattle.refining.specs.Refine.{furtherIn, envIn, runAt, Ready, Done};
+ghost use Rattle.sweep.specs.Sweep.{sampleIn, dirIn, tieIn, itself, Spared, isPair, arcPoint, arcOf, stepsOf, emitOf, Emitted, gapOf, courseIn, betweenOf, visitOf, nextIn, withPost, beginOf, sweepOf, Walks, Swept};
 
 const TAU: f64 = 6.283185307179586;
 
@@ -48,6 +49,14 @@ fn dir_in(k: Rooms, floats: &[f64], words: &[u32], i: u32) -> Vec2
 {
     let at = room::order_w(k) + lists::wide(i);
     room::dir_at(k, floats, lists::at32(words, at))
+}
+
+// Is a tie noted for the sample i in order of angle?
+fn tie_in(k: Rooms, words: &[u32], i: u32) -> bool
+    ensures { λ r. ⌜ r ≡ tieIn k (now (words .entry)) i ⌝ }
+{
+    let at = room::order_w(k) + lists::wide(i);
+    room::tie_at(k, words, lists::at32(words, at))
 }
 
 // The sample that follows the sample i of n.
@@ -78,12 +87,42 @@ fn is_pair(a: Sample, b: Sample) -> bool
     (a.offset == 0) & (b.offset == 2) & (b.event == a.event)
 }
 
-// The point and, where it hits, the owners of a sample, whose direction is `dir`. What `credit` does in mode 0 is done here too, which saves the call.
-fn emit(
+// The further credits of the sample i in order of angle: those beside the edge that it hit.
+fn credit_further(
     k: Rooms,
     x: AngularIndex,
     floats: &[f64],
     words: &[u32],
+    owners: &[u32],
+    marks: &mut [u8],
+    view: View,
+    i: u32,
+    s: Trace,
+) -> Trace
+    requires { ⌜ Room (k .owners) s × (dirIn k (now floats) (now words) i ≡ fromAngleOf (view .start ⊕ sampleIn k (now floats) (now words) i .angle)) ⌝ }
+    ensures { λ r. ⌜ owned (now (marks .exit)) r ≡ ownAll (k .owners) (now (owners .entry)) (furtherIn k x (now (floats .entry)) (now (words .entry)) (now (owners .entry)) view (sampleIn k (now (floats .entry)) (now (words .entry)) i .angle)) (now (marks .entry)) s ⌝ }
+    ensures { λ r. ⌜ Raised (k .owners) s r ⌝ }
+{
+    let a = sample_in(k, floats, words, i);
+    let dir = dir_in(k, floats, words, i);
+    credit::further(
+        k,
+        x,
+        floats,
+        words,
+        owners,
+        marks,
+        view.o,
+        a.angle,
+        dir,
+        view.r,
+        s,
+    )
+}
+
+// The point and, where it hits, the owner of a sample, whose direction is `dir`.
+fn emit(
+    room: u32,
     owners: &[u32],
     pts: &mut [f64],
     marks: &mut [u8],
@@ -92,33 +131,16 @@ fn emit(
     dir: Vec2,
     s: Trace,
 ) -> Trace
-    requires { ⌜ (2 * s .points ≤ length (now pts)) × Room (k .owners) s × (dir ≡ fromAngleOf (view .start ⊕ a .angle)) ⌝ }
-    ensures { λ r. ⌜ runAt (now (pts .exit)) (now (marks .exit)) r ≡ emitOf view (k .owners) (now (owners .entry)) (creditsIn k x (now (floats .entry)) (now (words .entry)) (now (owners .entry)) view) a (runAt (now (pts .entry)) (now (marks .entry)) s) ⌝ }
-    ensures { λ r. ⌜ Emitted (length (now (pts .entry))) (k .owners) s r ⌝ }
+    requires { ⌜ (2 * s .points ≤ length (now pts)) × Room room s × (dir ≡ fromAngleOf (view .start ⊕ a .angle)) ⌝ }
+    ensures { λ r. ⌜ runAt (now (pts .exit)) (now (marks .exit)) r ≡ emitOf view room (now (owners .entry)) itself a (runAt (now (pts .entry)) (now (marks .entry)) s) ⌝ }
+    ensures { λ r. ⌜ Emitted (length (now (pts .entry))) room s r ⌝ }
 {
     let o = view.o;
     let hit = a.hit;
     let p = refining::point_along(view, dir, hit);
     match hit {
         Cast::Hit(_, e) => {
-            if x.mode == 0 {
-                let q = outline::own(k.owners, owners, marks, s, e);
-                return outline::push(pts, q, o, p, e);
-            }
-            let t = credit::credit(
-                k,
-                x,
-                floats,
-                words,
-                owners,
-                marks,
-                o,
-                a.angle,
-                dir,
-                view.r,
-                e,
-                s,
-            );
+            let t = outline::own(room, owners, marks, s, e);
             outline::push(pts, t, o, p, e)
         }
         Cast::Miss => outline::push(pts, s, o, p, CORNER),
@@ -284,7 +306,8 @@ fn between(
     )
 }
 
-// The sample i of n, and what lies between it and the next one.
+// The sample i of n, and what lies between it and the next one. The further credits come first and only where a tie is noted, so that the samples without one, which
+// are nearly all, do not pay for them.
 fn visit(
     k: Rooms,
     x: AngularIndex,
@@ -301,27 +324,19 @@ fn visit(
     i: u32,
     s: Trace,
 ) -> Trace
-    requires { ⌜ (i < n) × (wordsFor k ≤ length (now words)) × Ready (length (now pts)) (k .owners) s × Directed k (view .start) (now floats) (part 0 (seenW k) (now words)) n ⌝ }
+    requires { ⌜ (i < n) × (wordsFor k ≤ length (now words)) × Ready (length (now pts)) (k .owners) s × Noted k (view .start) (Spared k x (now floats) (part 0 (seenW k) (now words)) (now owners) view) (now floats) (part 0 (seenW k) (now words)) n ⌝ }
     ensures { λ r. ⌜ runAt (now (pts .exit)) (now (marks .exit)) r ≡ visitOf (courseIn k x (now (floats .entry)) (part 0 (seenW k) (now (words .entry))) view step (now (points .entry)) (now (polygons .entry)) (now (owners .entry))) (sampleIn k (now (floats .entry)) (part 0 (seenW k) (now (words .entry))) i) (nextIn (view .full) (sampleIn k (now (floats .entry)) (part 0 (seenW k) (now (words .entry)))) n i) (runAt (now (pts .entry)) (now (marks .entry)) s) ⌝ }
     ensures { λ r. ⌜ Done (length (now (pts .entry))) (k .owners) s r × Only (seenW k) (wordsFor k) (now (words .entry)) (now (words .exit)) ⌝ }
 {
     let w = room::seen_w(k);
+    let mut u = s;
+    if tie_in(k, &words[0..w], i) {
+        u = credit_further(k, x, floats, &words[0..w], owners, &mut *marks, view, i, s);
+    }
     let a = sample_in(k, floats, &words[0..w], i);
     let dir = dir_in(k, floats, &words[0..w], i);
     let next = next_of(k, floats, &words[0..w], view, n, i);
-    let t = emit(
-        k,
-        x,
-        floats,
-        &words[0..w],
-        owners,
-        pts,
-        marks,
-        view,
-        a,
-        dir,
-        s,
-    );
+    let t = emit(k.owners, owners, pts, marks, view, a, dir, u);
     match next {
         Next::To(b) => between(
             k,
@@ -359,14 +374,14 @@ fn walk(
     n: u32,
     s: Trace,
 ) -> Trace
-    requires { ⌜ Walks k (length (now words)) (length (now pts)) s × Directed k (view .start) (now floats) (part 0 (seenW k) (now words)) n ⌝ }
+    requires { ⌜ Walks k (length (now words)) (length (now pts)) s × Noted k (view .start) (Spared k x (now floats) (part 0 (seenW k) (now words)) (now owners) view) (now floats) (part 0 (seenW k) (now words)) n ⌝ }
     ensures { λ r. ⌜ runAt (now (pts .exit)) (now (marks .exit)) r ≡ sweepOf (courseIn k x (now (floats .entry)) (part 0 (seenW k) (now (words .entry))) view step (now (points .entry)) (now (polygons .entry)) (now (owners .entry))) (listed (sampleIn k (now (floats .entry)) (part 0 (seenW k) (now (words .entry)))) n) (runAt (now (pts .entry)) (now (marks .entry)) s) ⌝ }
     ensures { λ r. ⌜ Swept k (length (now (pts .entry))) n r × Only (seenW k) (wordsFor k) (now (words .entry)) (now (words .exit)) ⌝ }
 {
     let mut t = s;
     let mut i: u32 = 0;
     while i < n {
-        t = visit(
+        let r = visit(
             k,
             x,
             floats,
@@ -382,6 +397,15 @@ fn walk(
             i,
             t,
         );
+        // Field by field: copied whole, it would wait for the bytes that stand between its fields.
+        t = Trace {
+            points: r.points,
+            owners: r.owners,
+            refinements: r.refinements,
+            last: r.last,
+            over: r.over,
+            prev: r.prev,
+        };
         i += 1;
     }
     t
@@ -414,7 +438,7 @@ pub fn sweep(
     step: f64,
     n: u32,
 ) -> Trace
-    requires { ⌜ (wordsFor k ≤ length (now words)) × Directed k (view .start) (now floats) (part 0 (seenW k) (now words)) n ⌝ }
+    requires { ⌜ (wordsFor k ≤ length (now words)) × Noted k (view .start) (Spared k x (now floats) (part 0 (seenW k) (now words)) (now owners) view) (now floats) (part 0 (seenW k) (now words)) n ⌝ }
     ensures { λ r. ⌜ runAt (now (pts .exit)) (now (marks .exit)) r ≡ sweepOf (courseIn k x (now (floats .entry)) (part 0 (seenW k) (now (words .entry))) view step (now (points .entry)) (now (polygons .entry)) (now (owners .entry))) (listed (sampleIn k (now (floats .entry)) (part 0 (seenW k) (now (words .entry)))) n) (beginOf view (now (pts .entry)) (now (marks .entry))) ⌝ }
     ensures { λ r. ⌜ Swept k (length (now (pts .entry))) n r × Only (seenW k) (wordsFor k) (now (words .entry)) (now (words .exit)) ⌝ }
 {

@@ -80,7 +80,7 @@ returns : tie.Need-returns
 returns c =
     let s = c .before .before .before .before .before .before .before .before .before .before .before .before .before .before .before .before .before in
     let at = c .before .before .before .before .before .before .samples-w .result + 4 * c .before .before .before .before .before .before .before .before .before .before .before .before .before .before .wide .result + 2 in
-    hit-put (s .args .k) (s .args .i) (s .args .floats .now) (s .args .words .now) (s .args .h) _ _ (s .pre .below)
+    hit-put (s .args .k) (s .args .i) (s .args .floats .now) (s .args .words .now) (s .args .h) (s .args .tied) _ _ (s .pre .below)
     (cell-laid (s .args .floats .now) (c .before .before .before .before .before .before .before .before .before .put64 .last .0) _ (c .before .before .before .before .before .before .before .before .before .before .before .before .before .distances-f .result) (c .before .before .before .before .before .before .before .before .before .before .before .before .dirs-f .result) (c .before .before .before .before .before .before .before .before .before .before .before .before .before .before .wide .result) _ (rw (c .before .before .before .before .before .before .before .before .before .before .distance-of .ensures) at (c .before .before .before .before .before .before .before .before .before .put64 .ensures)) (omega arith) (omega arith) (omega arith))
     (row-laid (s .args .words .now) (c .before .before .put-two .last .0) _ at (at + 2) 2 _ (rw (c .before .before .before .before .tag-of .ensures, c .before .before .before .number-of .ensures) at (c .before .before .put-two .ensures)) (omega arith) refl (omega (arith, c .before .before .before .before .before .before .samples-w .ensures, c .before .before .before .before .before .before .before .before .before .before .before .before .before .before .wide .ensures, s .pre .fit .words-fit, s .pre .below)) refl)
 

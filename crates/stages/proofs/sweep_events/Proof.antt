@@ -1,5 +1,5 @@
 -- `sweep_events`: no event, a list that is over, or the outline. Assumes nothing.
-use Rattle.sweep.proofs.Front.{directed-front}
+use Rattle.stages.proofs.Casts.{noted-still}
 use Rattle.stages.proofs.Showing.{events-none, events-over, trace-eight, trace-seen}
 use Rattle.stages.specs.Drawing.{request}
 use lib.ListN.{length}
@@ -43,7 +43,7 @@ trace-requires : tie.Need-trace-requires
 trace-requires c κs =
     let r = c .before .before .before .before .before .before .before .before .before .before .before .before .cast-rays in
     let no = c .before .before .before .before .before .before .before .if2 .left in
-    (omega (arith, c .before .before .before .before .before .before .before .before .before .before .before .before .cast-rays .kept .1 .1 .1 .1 .1 .0, c .before .before .before .before .before .before .before .before .before .before .before .before .before .before .before .before .before .before .before .before .before .before .before .before .pre .fit .words-fit), directed-front (c .before .before .before .before .before .before .before .before .before .before .before .before .before .before .before .before .before .before .before .before .before .before .before .before .args .k) (r .last .1 .1 .1 .1 .1 .0) (r .last .1 .1 .1 .1 .0) (r .result .samples) (r .ensures .few no) (r .ensures .below no) _ (r .ensures .dirs no))
+    (omega (arith, c .before .before .before .before .before .before .before .before .before .before .before .before .cast-rays .kept .1 .1 .1 .1 .1 .0, c .before .before .before .before .before .before .before .before .before .before .before .before .before .before .before .before .before .before .before .before .before .before .before .before .pre .fit .words-fit), noted-still _ _ _ _ _ (r .result) (r .last .1 .1 .1 .1 .0) (r .last .1 .1 .1 .1 .1 .0) (r .ensures) no (c .before .before .before .before .before .before .before .before .before .before .before .before .before .before .before .before .before .before .before .before .before .before .before .before .args .owners .now))
 
 same-length-4 : tie.Need-same-length-4
 same-length-4 c = c .before .before .before .before .before .before .before .before .before .before .before .before .before .before .before .before .before .before .before .before .cast-rays .kept .1 .1 .1 .1 .0

@@ -1,7 +1,5 @@
--- `emit`: the owner, or the owners, and the point of a hit, or the point of a miss.
-use Rattle.credit.proofs.Credits.{credit-rust, credited}
-use Rattle.refining.specs.Refine.{creditsIn}
-use Rattle.refining.proofs.Ways.{credit-is}
+-- `emit`: the owner and the point of a hit, or the point of a miss.
+use Rattle.sweep.specs.Sweep.{itself}
 use Rattle.sweep.proofs.Ways.{emit-point, emit-hit, emit-miss, emitted-hit, emitted-miss}
 use native.Mathlib.Omega.{arith}
 use borrow.Author.Needs.{needs}
@@ -15,10 +13,16 @@ enum-known-hit : tie.Need-enum-known-hit
 enum-known-hit c = search needs
 
 own-requires : tie.Need-own-requires
-own-requires c κs = c .before .before .before .before .before .before .before .before .before .before .before .before .before .pre .1
+own-requires c κs = c .before .before .before .before .before .before .before .before .before .pre .1
 
 push-requires : tie.Need-push-requires
-push-requires c κs = omega (arith, c .before .before .before .own .ensures .1 .points, c .before .before .before .before .before .before .before .before .before .before .before .before .before .before .before .before .before .pre .0)
+push-requires c κs = omega (arith, c .before .before .before .own .ensures .1 .points, c .before .before .before .before .before .before .before .before .before .before .before .before .before .pre .0)
+
+enum-told : tie.Need-enum-told
+enum-told c = search needs
+
+push-requires-2 : tie.Need-push-requires-2
+push-requires-2 c κs = c .before .before .before .before .before .before .before .before .pre .0
 
 same-length : tie.Need-same-length
 same-length c = c .before .before .push .kept .0
@@ -28,40 +32,20 @@ same-length-2 c = c .before .before .before .before .before .before .own .kept .
 
 returns : tie.Need-returns
 returns c =
-    let a = c .before .before .before .before .before .before .before .before .before .before .before .before .before .before .before .before .before .before .before .before .args in
-    let e = credit-rust (a .k) (a .x) (a .floats .now) (a .words .now) (a .owners .now) (a .view .o) (a .a .angle) (a .dir) (a .view .r) _ (a .k .owners) (a .marks .now) (a .s) (c .before .before .before .before .before .before .before .before .if1 .taken) (c .before .before .before .before .before .before .own .ensures .0) in
-    (emit-hit (a .view) (a .k .owners) (a .owners .now) (creditsIn (a .k) (a .x) (a .floats .now) (a .words .now) (a .owners .now) (a .view)) (a .a) (a .pts .now) (a .marks .now) (a .s) (emit-point (a .view) (a .a) (c .before .before .before .before .before .before .before .before .before .before .before .before .before .before .before .before .before .before .before .before .pre .2) (c .before .before .before .before .before .before .before .before .before .before .before .before .before .point-along .ensures)) (c .before .before .before .before .before .before .before .before .before .before .before .hit .given .1) (credit-is (a .k) (a .x) (a .floats .now) (a .words .now) (a .owners .now) (a .view) (a .a .angle) _ (a .k .owners) (a .marks .now) (a .s) (c .before .before .before .before .before .before .before .before .before .before .before .before .before .before .before .before .before .before .before .before .pre .2) e) (c .before .before .push .ensures .0), emitted-hit (credited (a .k) (a .x) (a .floats .now) (a .words .now) (a .owners .now) (a .view .o) (a .a .angle) (a .dir) (a .view .r) _ (a .k .owners) (a .marks .now) (a .s) (c .before .before .before .before .before .before .before .before .before .before .before .before .before .before .before .before .before .before .before .before .pre .1) e) (c .before .before .push .ensures .1))
-
-credit-requires : tie.Need-credit-requires
-credit-requires c κs = c .before .before .before .before .before .before .before .before .before .before .before .before .before .pre .1
-
-push-requires-2 : tie.Need-push-requires-2
-push-requires-2 c κs = omega (arith, c .before .before .before .credit .ensures .1 .points, c .before .before .before .before .before .before .before .before .before .before .before .before .before .before .before .before .before .pre .0)
-
-enum-told : tie.Need-enum-told
-enum-told c = search needs
-
-push-requires-3 : tie.Need-push-requires-3
-push-requires-3 c κs = c .before .before .before .before .before .before .before .before .before .before .pre .0
+    let a = c .before .before .before .before .before .before .before .before .before .before .before .before .before .before .before .before .args in (
+      emit-hit (a .view) (a .room) (a .owners .now) itself (a .a) (a .pts .now) (a .marks .now) (a .s) (emit-point (a .view) (a .a) (c .before .before .before .before .before .before .before .before .before .before .before .before .before .before .before .before .pre .2) (c .before .before .before .before .before .before .before .before .before .before .before .point-along .ensures)) (c .before .before .before .before .before .before .before .before .before .hit .given .1) (c .before .before .before .before .before .before .own .ensures .0) (c .before .before .push .ensures .0),
+      emitted-hit (c .before .before .before .before .before .before .own .ensures .1) (c .before .before .push .ensures .1),
+    )
 
 same-length-3 : tie.Need-same-length-3
 same-length-3 c = c .before .before .push2 .kept .0
 
-same-length-4 : tie.Need-same-length-4
-same-length-4 c = c .before .before .before .before .before .before .credit .kept .1 .1 .1 .1 .1 .0
-
 returns-2 : tie.Need-returns-2
 returns-2 c =
-    let a = c .before .before .before .before .before .before .before .before .before .before .before .before .before .before .before .before .before .before .before .before .args in
-    (emit-hit (a .view) (a .k .owners) (a .owners .now) (creditsIn (a .k) (a .x) (a .floats .now) (a .words .now) (a .owners .now) (a .view)) (a .a) (a .pts .now) (a .marks .now) (a .s) (emit-point (a .view) (a .a) (c .before .before .before .before .before .before .before .before .before .before .before .before .before .before .before .before .before .before .before .before .pre .2) (c .before .before .before .before .before .before .before .before .before .before .before .before .before .point-along .ensures)) (c .before .before .before .before .before .before .before .before .before .before .before .hit .given .1) (credit-is (a .k) (a .x) (a .floats .now) (a .words .now) (a .owners .now) (a .view) (a .a .angle) _ (a .k .owners) (a .marks .now) (a .s) (c .before .before .before .before .before .before .before .before .before .before .before .before .before .before .before .before .before .before .before .before .pre .2) (c .before .before .before .before .before .before .credit .ensures .0)) (c .before .before .push2 .ensures .0), emitted-hit (c .before .before .before .before .before .before .credit .ensures .1) (c .before .before .push2 .ensures .1))
-
-same-length-5 : tie.Need-same-length-5
-same-length-5 c = c .before .before .push3 .kept .0
-
-returns-3 : tie.Need-returns-3
-returns-3 c =
-    let a = c .before .before .before .before .before .before .before .before .before .before .before .before .before .args in
-    (emit-miss (a .view) (a .k .owners) (a .owners .now) (creditsIn (a .k) (a .x) (a .floats .now) (a .words .now) (a .owners .now) (a .view)) (a .a) (a .pts .now) (a .marks .now) (a .s) (emit-point (a .view) (a .a) (c .before .before .before .before .before .before .before .before .before .before .before .before .before .pre .2) (c .before .before .before .before .before .before .point-along .ensures)) (c .before .before .before .before .enum-told .given .1) (c .before .before .push3 .ensures .0), emitted-miss (c .before .before .before .before .before .before .before .before .before .before .before .before .before .pre .1) (c .before .before .push3 .ensures .1))
+    let a = c .before .before .before .before .before .before .before .before .before .before .before .args in (
+      emit-miss (a .view) (a .room) (a .owners .now) itself (a .a) (a .pts .now) (a .marks .now) (a .s) (emit-point (a .view) (a .a) (c .before .before .before .before .before .before .before .before .before .before .before .pre .2) (c .before .before .before .before .before .before .point-along .ensures)) (c .before .before .before .before .enum-told .given .1) (c .before .before .push2 .ensures .0),
+      emitted-miss (c .before .before .before .before .before .before .before .before .before .before .before .pre .1) (c .before .before .push2 .ensures .1),
+    )
 
 pub emit-spec : {M : Type 1} → statement M
 emit-spec =
@@ -71,15 +55,10 @@ emit-spec =
     enum-known-hit
     own-requires
     push-requires
+    enum-told
+    push-requires-2
     same-length
     same-length-2
     returns
-    credit-requires
-    push-requires-2
-    enum-told
-    push-requires-3
     same-length-3
-    same-length-4
-    returns-2
-    same-length-5
-    returns-3)
+    returns-2)

@@ -1,6 +1,6 @@
 -- `walk`: the samples from i on are left to walk.
 use Prim.Native.Nat.{_-_}
-use Rattle.sweep.proofs.Walking.{Head, walk-none, walk-ready, walk-directed, walk-more, walk-end, walk-swept}
+use Rattle.sweep.proofs.Walking.{Head, walk-none, walk-ready, walk-noted, walk-more, walk-end, walk-swept}
 use native.Mathlib.Omega.{arith}
 use Rattle.sweep.proofs.walk.Statement.{statement}
 use Rattle.sweep.proofs.walk.Tie as tie
@@ -15,7 +15,7 @@ loop-holds : tie.Need-loop-holds Inv-loop μ-loop
 loop-holds c = let a = c .before .before .before .before .before .before .before .args in walk-none (a .k) (a .x) (a .floats .now) (a .view) (a .step) (a .points .now) (a .polygons .now) (a .owners .now) (a .n) (a .words .now) (a .pts .now) (a .marks .now) (a .s) (c .before .before .before .before .before .before .before .pre .0)
 
 visit-requires : tie.Need-visit-requires Inv-loop μ-loop
-visit-requires c κs = let a = c .before .before .before .before .before .before .before .before .before .before .before .before .args in let l = c .before .before .before .before .loop in (c .before .before .before .loop-test .taken, omega (arith, l .inv .only .long, c .before .before .before .before .before .before .before .before .before .before .before .before .pre .0 .long), walk-ready (a .k) (a .x) (a .floats .now) (a .view) (a .step) (a .points .now) (a .polygons .now) (a .owners .now) (a .n) (a .words .now) (a .pts .now) (a .marks .now) (a .s) (l .words) (l .pts) (l .marks) (l .t) (l .i) (l .inv) (c .before .before .before .loop-test .taken) (omega (arith, c .before .before .before .before .before .before .before .before .before .before .before .before .fits)) (omega (arith, c .before .before .before .before .before .before .before .before .before .before .before .before .good)), walk-directed (a .k) (a .x) (a .floats .now) (a .view) (a .step) (a .points .now) (a .polygons .now) (a .owners .now) (a .n) (a .words .now) (a .pts .now) (a .marks .now) (a .s) (l .words) (l .pts) (l .marks) (l .t) (l .i) (l .inv) (c .before .before .before .before .before .before .before .before .before .before .before .before .pre .1))
+visit-requires c κs = let a = c .before .before .before .before .before .before .before .before .before .before .before .before .args in let l = c .before .before .before .before .loop in (c .before .before .before .loop-test .taken, omega (arith, l .inv .only .long, c .before .before .before .before .before .before .before .before .before .before .before .before .pre .0 .long), walk-ready (a .k) (a .x) (a .floats .now) (a .view) (a .step) (a .points .now) (a .polygons .now) (a .owners .now) (a .n) (a .words .now) (a .pts .now) (a .marks .now) (a .s) (l .words) (l .pts) (l .marks) (l .t) (l .i) (l .inv) (c .before .before .before .loop-test .taken) (omega (arith, c .before .before .before .before .before .before .before .before .before .before .before .before .fits)) (omega (arith, c .before .before .before .before .before .before .before .before .before .before .before .before .good)), walk-noted (a .k) (a .x) (a .floats .now) (a .view) (a .step) (a .points .now) (a .polygons .now) (a .owners .now) (a .n) (a .words .now) (a .pts .now) (a .marks .now) (a .s) (l .words) (l .pts) (l .marks) (l .t) (l .i) (l .inv) (c .before .before .before .before .before .before .before .before .before .before .before .before .pre .1))
 
 add-i : tie.Need-add-i Inv-loop μ-loop
 add-i c = omega (arith, c .before .before .before .before .before .before .before .before .before .before .loop-test .taken, c .before .before .before .before .before .before .before .before .before .before .before .before .before .before .before .before .before .before .before .fits)
