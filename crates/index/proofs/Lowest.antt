@@ -1,7 +1,9 @@
 -- THE LOWEST OF THE TIED: `lowest`: in a mode that is not 0 a cast that hits answers the lowest number among the edges that it tests and meets at exactly the
 -- distance answered, and none that it tests is met nearer (`nearest`). `let-through`: it tests each edge of its bucket to the first that is farther by nearness.
 -- `tied-hit`: in both modes the edge answered is one of the tied. `in-range`: in both it is nearer than the range. `alone`: it is the only tied one where the walk met
--- no further edge at its distance. Assumes nothing.
+-- no further edge at its distance.
+-- A MISS, in a mode that is not 0: no edge that it tests is met nearer than the range (`none-nearer`), and it tests each edge of its bucket to the first that is
+-- farther than the range by nearness (`miss-through`). Assumes nothing.
 use mathlib.Core.Path.{_≡_, refl, sym, ap, _∙_, subst}
 use mathlib.Core.Logic.{_⊎_, inl, inr, ⊎-elim}
 use mathlib.Core.Bool.{Bool, true, false, cond, true≢false}
@@ -184,6 +186,31 @@ module _ (slack : Float) (o dir : Vec2) (mode : ℕ) where
       on (inl h) (inl k) = inl (h .0 ∙ k .0, h .1 ∙ k .1, h .2 ∙ k .2)
       on (inl h) (inr k) = inr (e, inl refl, (k .0 ∙ sym (h .2), ap (λ (t : Float). metAt t (raySegmentWithin slack o dir (e .a) (e .b))) (h .0) ∙ k .1))
 
+-- until an edge is found the distance to beat stays
+module _ (mode : ℕ) where
+  abbrev Still : Best → Best → Type 0
+  Still b r = (r .found ≡ true) ⊎ ((r .t ≡ b .t) × (r .found ≡ b .found))
+
+  better-unfound : (m : Reach) (edge : ℕ) (b : Best) → Still b (betterOf mode m edge b)
+  better-unfound reach.Miss edge b = inr (refl, refl)
+  better-unfound (reach.Hit t) edge b = by (lt t (b .t)) (eq t (b .t)) (eqb mode 0) (b .found) refl
+    where
+      by : (p q z f : Bool) → b .found ≡ f → Still b (cond p (bestOf t edge) (cond q (cond z b (cond f (tiedBest (b .t) (cond (ltb edge (b .edge)) edge (b .edge))) b)) b))
+      by true q z f h = inl refl
+      by false true true f h = inr (refl, refl)
+      by false true false true h = inl refl
+      by false true false false h = inr (refl, refl)
+      by false false z f h = inr (refl, refl)
+
+  walk-unfound : (slack : Float) (o dir : Vec2) (b : Best) (l : List LocalEdge) → Still b (walkOf slack o dir mode b l)
+  unfolding walkOf meetOf
+  walk-unfound slack o dir b [] = inr (refl, refl)
+  walk-unfound slack o dir b (e ∷ l) =
+      let m = betterOf mode (raySegmentWithin slack o dir (e .a) (e .b)) (e .edge) b in
+      ⊎-elim (λ q. rw q (inr (refl, refl)))
+      (λ q. rw q (⊎-elim inl (λ w. ⊎-elim (λ y. inl (w .1 ∙ y)) (λ y. inr (w .0 ∙ y .0, w .1 ∙ y .1)) (better-unfound (raySegmentWithin slack o dir (e .a) (e .b)) (e .edge) b)) (walk-unfound slack o dir m l)))
+      (by-test (stopOf mode (b .t) (e .near)))
+
 -- ---- THE THEOREMS
 pub record Found (b : Best) (t : Float) (edge : ℕ) : Type 0 where
   pub found : b .found ≡ true
@@ -197,31 +224,14 @@ cast-best b t edge e =
     (λ q. let p : Miss ≡ Hit t edge = rw q at e in absurd (let z : _≡_ {A = ℕ} 0 1 = cc in omega arith))
     (by-test (b .found))
 
-module _ (x : Index) (o : Vec2) (angle : Float) (dir : Vec2) (max t : Float) (edge : ℕ) (hit : castOf x o angle dir max ≡ Hit t edge) where
+found-hits : (b : Best) → b .found ≡ true → castBy b ≡ Miss → ⊥
+found-hits b q e = let p : Hit (b .t) (b .edge) ≡ Miss = rw q at e in let z : _≡_ {A = ℕ} 0 1 = cc in omega arith
+
+module _ (x : Index) (o : Vec2) (angle : Float) (dir : Vec2) (max : Float) where
   abbrev best : Best
   best = walkOf nano o dir (x .head .mode) (noneYet max) (bucketAt x angle)
 
-  hit-is : Found best t edge
-  unfolding castOf castWithin
-  hit-is = cast-best best t edge hit
-
-  -- in both modes the edge answered is one of the tied
-  pub tied-hit : (e : LocalEdge) × In e (tiedOf x o angle dir max t) × (e .edge ≡ edge)
-  unfolding tiedOf testedIn
-  tied-hit =
-      ⊎-elim
-      (λ q. absurd (true≢false (sym (hit-is .found) ∙ q .1)))
-      (λ (e, i, a). (e, in-filter (tiesAt nano o dir t) e (testedIn x o angle dir max) i (ap (λ (u : Float). tiesAt nano o dir u e) (sym (hit-is .t-is)) ∙ a .1), a .0 ∙ hit-is .edge-is))
-      (walk-made nano o dir (x .head .mode) (noneYet max) (bucketAt x angle))
-
-  -- in both modes the distance answered is less than the range: an edge at the range itself is a miss
-  pub in-range : lt t max ≡ true
-  in-range =
-      ⊎-elim
-      (λ q. absurd (true≢false (sym (hit-is .found) ∙ q .found)))
-      (λ q. ap (λ (u : Float). lt u max) (sym (hit-is .t-is)) ∙ q)
-      (walk-later (x .head .mode) nano o dir (noneYet max) (bucketAt x angle))
-
+  -- where ties count, whatever distance the walk came to
   module _ (ties : x .head .mode ≡ 0 → ⊥) where
     beaten : (e : LocalEdge) → In e (testedIn x o angle dir max) → Beats best (raySegmentWithin nano o dir (e .a) (e .b)) (e .edge)
     unfolding testedIn
@@ -229,43 +239,88 @@ module _ (x : Index) (o : Vec2) (angle : Float) (dir : Vec2) (max t : Float) (ed
         all-in (λ e. Beats best (raySegmentWithin nano o dir (e .a) (e .b)) (e .edge)) (testedOf nano o dir (x .head .mode) (noneYet max) (bucketAt x angle)) e
         (walk-beats (x .head .mode) ties nano o dir (noneYet max) (bucketAt x angle)) i
 
-    -- no edge that it tests is met nearer
-    not-nearer : (m : Reach) (n : ℕ) → Beats best m n → metBefore t m ≡ false
-    not-nearer (reach.Hit u) n h = ap (lt u) (sym (hit-is .t-is)) ∙ h .0
-    not-nearer reach.Miss n h = refl
+    module _ (t : Float) (at : best .t ≡ t) where
+      not-nearer : (m : Reach) (n : ℕ) → Beats best m n → metBefore t m ≡ false
+      not-nearer (reach.Hit u) n h = ap (lt u) (sym at) ∙ h .0
+      not-nearer reach.Miss n h = refl
 
-    pub nearest : All (λ e. metBefore t (raySegmentWithin nano o dir (e .a) (e .b)) ≡ false) (testedIn x o angle dir max)
-    nearest =
-        in-all (λ e. metBefore t (raySegmentWithin nano o dir (e .a) (e .b)) ≡ false) (testedIn x o angle dir max)
-        (λ e i. not-nearer (raySegmentWithin nano o dir (e .a) (e .b)) (e .edge) (beaten e i))
+      nearest-at : All (λ e. metBefore t (raySegmentWithin nano o dir (e .a) (e .b)) ≡ false) (testedIn x o angle dir max)
+      nearest-at =
+          in-all (λ e. metBefore t (raySegmentWithin nano o dir (e .a) (e .b)) ≡ false) (testedIn x o angle dir max)
+          (λ e i. not-nearer (raySegmentWithin nano o dir (e .a) (e .b)) (e .edge) (beaten e i))
 
-    -- it tests each edge of its bucket to the first that is farther, by nearness, than its answer: equal nearness is let through
-    pub let-through : (l k : List LocalEdge) → bucketAt x angle ≡ l ++ k → All (λ e. lt t (e .near) ≡ false) l → All (λ e. In e (testedIn x o angle dir max)) l
-    unfolding testedIn
-    let-through l k h a =
-        subst (λ (w : List LocalEdge). All (λ e. In e (testedOf nano o dir (x .head .mode) (noneYet max) w)) l) (sym h)
-        (walk-through (x .head .mode) ties nano o dir (noneYet max) l k
-        (subst (λ (w : List LocalEdge). All (λ e. lt (walkOf nano o dir (x .head .mode) (noneYet max) w .t) (e .near) ≡ false) l) h
-        (subst (λ (u : Float). All (λ e. lt u (e .near) ≡ false) l) (sym (hit-is .t-is)) a)))
+      through-at : (l k : List LocalEdge) → bucketAt x angle ≡ l ++ k → All (λ e. lt t (e .near) ≡ false) l → All (λ e. In e (testedIn x o angle dir max)) l
+      unfolding testedIn
+      through-at l k h a =
+          subst (λ (w : List LocalEdge). All (λ e. In e (testedOf nano o dir (x .head .mode) (noneYet max) w)) l) (sym h)
+          (walk-through (x .head .mode) ties nano o dir (noneYet max) l k
+          (subst (λ (w : List LocalEdge). All (λ e. lt (walkOf nano o dir (x .head .mode) (noneYet max) w .t) (e .near) ≡ false) l) h
+          (subst (λ (u : Float). All (λ e. lt u (e .near) ≡ false) l) (sym at) a)))
 
-    lower-than : (m : Reach) (n : ℕ) → Beats best m n → metAt t m ≡ true → edge ≤ n
-    lower-than (reach.Hit u) n h k = subst (λ (i : ℕ). i ≤ n) (hit-is .edge-is) (h .1 (hit-is .found) (ap (eq u) (hit-is .t-is) ∙ k) .lowest)
-    lower-than reach.Miss n h k = absurd (true≢false (sym k))
+  -- ---- a hit
+  module _ (t : Float) (edge : ℕ) (hit : castOf x o angle dir max ≡ Hit t edge) where
+    hit-is : Found best t edge
+    unfolding castOf castWithin
+    hit-is = cast-best best t edge hit
 
-    -- its number is the lowest of the tied
-    pub lowest : All (λ e. edge ≤ e .edge) (tiedOf x o angle dir max t)
-    unfolding tiedOf tiesAt
-    lowest =
-        in-all (λ e. edge ≤ e .edge) (tiedOf x o angle dir max t)
-        (λ e i. let q = filter-in (tiesAt nano o dir t) e (testedIn x o angle dir max) i in lower-than (raySegmentWithin nano o dir (e .a) (e .b)) (e .edge) (beaten e (q .0)) (q .1))
+    -- in both modes the edge answered is one of the tied
+    pub tied-hit : (e : LocalEdge) × In e (tiedOf x o angle dir max t) × (e .edge ≡ edge)
+    unfolding tiedOf testedIn
+    tied-hit =
+        ⊎-elim
+        (λ q. absurd (true≢false (sym (hit-is .found) ∙ q .1)))
+        (λ (e, i, a). (e, in-filter (tiesAt nano o dir t) e (testedIn x o angle dir max) i (ap (λ (u : Float). tiesAt nano o dir u e) (sym (hit-is .t-is)) ∙ a .1), a .0 ∙ hit-is .edge-is))
+        (walk-made nano o dir (x .head .mode) (noneYet max) (bucketAt x angle))
 
-    same-as : best .tied ≡ false → (m : Reach) (n : ℕ) → Beats best m n → metAt t m ≡ true → n ≡ edge
-    same-as z (reach.Hit u) n h k = h .1 (hit-is .found) (ap (eq u) (hit-is .t-is) ∙ k) .alone z ∙ hit-is .edge-is
-    same-as z reach.Miss n h k = absurd (true≢false (sym k))
+    -- in both modes the distance answered is less than the range: an edge at the range itself is a miss
+    pub in-range : lt t max ≡ true
+    in-range =
+        ⊎-elim
+        (λ q. absurd (true≢false (sym (hit-is .found) ∙ q .found)))
+        (λ q. ap (λ (u : Float). lt u max) (sym (hit-is .t-is)) ∙ q)
+        (walk-later (x .head .mode) nano o dir (noneYet max) (bucketAt x angle))
 
-    -- it is the only one of them where the walk met no further edge at its distance
-    pub alone : best .tied ≡ false → All (λ e. e .edge ≡ edge) (tiedOf x o angle dir max t)
-    unfolding tiedOf tiesAt
-    alone z =
-        in-all (λ e. e .edge ≡ edge) (tiedOf x o angle dir max t)
-        (λ e i. let q = filter-in (tiesAt nano o dir t) e (testedIn x o angle dir max) i in same-as z (raySegmentWithin nano o dir (e .a) (e .b)) (e .edge) (beaten e (q .0)) (q .1))
+    module _ (ties : x .head .mode ≡ 0 → ⊥) where
+      -- no edge that it tests is met nearer
+      pub nearest : All (λ e. metBefore t (raySegmentWithin nano o dir (e .a) (e .b)) ≡ false) (testedIn x o angle dir max)
+      nearest = nearest-at ties t (hit-is .t-is)
+
+      -- it tests each edge of its bucket to the first that is farther, by nearness, than its answer: equal nearness is let through
+      pub let-through : (l k : List LocalEdge) → bucketAt x angle ≡ l ++ k → All (λ e. lt t (e .near) ≡ false) l → All (λ e. In e (testedIn x o angle dir max)) l
+      let-through = through-at ties t (hit-is .t-is)
+
+      lower-than : (m : Reach) (n : ℕ) → Beats best m n → metAt t m ≡ true → edge ≤ n
+      lower-than (reach.Hit u) n h k = subst (λ (i : ℕ). i ≤ n) (hit-is .edge-is) (h .1 (hit-is .found) (ap (eq u) (hit-is .t-is) ∙ k) .lowest)
+      lower-than reach.Miss n h k = absurd (true≢false (sym k))
+
+      -- its number is the lowest of the tied
+      pub lowest : All (λ e. edge ≤ e .edge) (tiedOf x o angle dir max t)
+      unfolding tiedOf tiesAt
+      lowest =
+          in-all (λ e. edge ≤ e .edge) (tiedOf x o angle dir max t)
+          (λ e i. let q = filter-in (tiesAt nano o dir t) e (testedIn x o angle dir max) i in lower-than (raySegmentWithin nano o dir (e .a) (e .b)) (e .edge) (beaten ties e (q .0)) (q .1))
+
+      same-as : best .tied ≡ false → (m : Reach) (n : ℕ) → Beats best m n → metAt t m ≡ true → n ≡ edge
+      same-as z (reach.Hit u) n h k = h .1 (hit-is .found) (ap (eq u) (hit-is .t-is) ∙ k) .alone z ∙ hit-is .edge-is
+      same-as z reach.Miss n h k = absurd (true≢false (sym k))
+
+      -- it is the only one of them where the walk met no further edge at its distance
+      pub alone : best .tied ≡ false → All (λ e. e .edge ≡ edge) (tiedOf x o angle dir max t)
+      unfolding tiedOf tiesAt
+      alone z =
+          in-all (λ e. e .edge ≡ edge) (tiedOf x o angle dir max t)
+          (λ e i. let q = filter-in (tiesAt nano o dir t) e (testedIn x o angle dir max) i in same-as z (raySegmentWithin nano o dir (e .a) (e .b)) (e .edge) (beaten ties e (q .0)) (q .1))
+
+  -- ---- a miss, where ties count
+  module _ (miss : castOf x o angle dir max ≡ Miss) (ties : x .head .mode ≡ 0 → ⊥) where
+    at-range : best .t ≡ max
+    unfolding castOf castWithin
+    at-range = ⊎-elim (λ q. absurd (found-hits best q miss)) (λ q. q .0) (walk-unfound (x .head .mode) nano o dir (noneYet max) (bucketAt x angle))
+
+    -- no edge that it tests is met nearer than the range
+    pub none-nearer : All (λ e. metBefore max (raySegmentWithin nano o dir (e .a) (e .b)) ≡ false) (testedIn x o angle dir max)
+    none-nearer = nearest-at ties max at-range
+
+    -- and it tests each edge of its bucket to the first that is farther, by nearness, than the range
+    pub miss-through : (l k : List LocalEdge) → bucketAt x angle ≡ l ++ k → All (λ e. lt max (e .near) ≡ false) l → All (λ e. In e (testedIn x o angle dir max)) l
+    miss-through = through-at ties max at-range
