@@ -535,7 +535,12 @@ impl Lent {
 
     /// How many of the rays hit: five numbers each, the origin, the direction and the length.
     pub fn inner_hits(&self, asked: &[f64]) -> u64 {
-        ask!(bf_inner_hits, self, asked.as_ptr(), asked.len())
+        self.hits_by(bf_inner_hits, asked)
+    }
+
+    /// The same by the function of any build.
+    pub fn hits_by(&self, f: Hits, asked: &[f64]) -> u64 {
+        ask!(f, self, asked.as_ptr(), asked.len())
     }
 
     /// First point, number of points and box.
@@ -577,7 +582,8 @@ impl Lent {
         k: Entries,
         w: &mut Work,
     ) -> (u32, [u64; 9]) {
-        self.draw(bf_compute_visibility, cone, tolerance, mode, k, w)
+        let f = Drawing::InMode(bf_compute_visibility);
+        self.draw(f, cone, tolerance, mode, k, w)
     }
 
     /// The same without the test of the tables, for a site that building has made.
@@ -589,12 +595,13 @@ impl Lent {
         k: Entries,
         w: &mut Work,
     ) -> (u32, [u64; 9]) {
-        self.draw(bf_inner_compute_visibility, cone, tolerance, mode, k, w)
+        self.draw(INNER, cone, tolerance, mode, k, w)
     }
 
-    fn draw(
+    /// The same by either function, of this build or another.
+    pub fn draw(
         &self,
-        f: Draw,
+        f: Drawing,
         cone: Cone,
         tolerance: f64,
         mode: u32,
@@ -602,35 +609,73 @@ impl Lent {
         w: &mut Work,
     ) -> (u32, [u64; 9]) {
         let mut answer = [u64::MAX; 9];
-        let status = ask!(
-            f,
-            self,
-            &cone.five(),
-            tolerance,
-            mode,
-            &k,
-            w.marks.as_mut_ptr(),
-            w.marks.len(),
-            &mut w.epoch,
-            w.floats.as_mut_ptr(),
-            w.floats.len(),
-            w.words.as_mut_ptr(),
-            w.words.len(),
-            w.outline.as_mut_ptr(),
-            w.outline.len(),
-            w.visible.as_mut_ptr(),
-            w.visible.len(),
-            &mut answer
-        );
+        macro_rules! drawn {
+            ($f:ident $(, $mode:ident)?) => {
+                ask!(
+                    $f,
+                    self,
+                    &cone.five(),
+                    tolerance,
+                    $($mode,)?
+                    &k,
+                    w.marks.as_mut_ptr(),
+                    w.marks.len(),
+                    &mut w.epoch,
+                    w.floats.as_mut_ptr(),
+                    w.floats.len(),
+                    w.words.as_mut_ptr(),
+                    w.words.len(),
+                    w.outline.as_mut_ptr(),
+                    w.outline.len(),
+                    w.visible.as_mut_ptr(),
+                    w.visible.len(),
+                    &mut answer
+                )
+            };
+        }
+        let status = match f {
+            Drawing::InMode(f) => drawn!(f, mode),
+            Drawing::Modeless(f) => drawn!(f),
+        };
         (status, answer)
     }
 }
 
-#[rustfmt::skip]
-type Draw = unsafe extern "C" fn(
-    &[f64; 6], &[u32; 5], *const f64, usize, *const f64, usize, *const u32, usize, *const u32, usize, *const u32, usize, *const u32, usize,
-    &[f64; 5], f64, u32, &[u32; 9], *mut u32, usize, &mut u32, *mut f64, usize, *mut u32, usize, *mut f64, usize, *mut u32, usize, &mut [u64; 9],
-) -> u32;
+/// The type of a function of a site, its head and tables in front.
+macro_rules! of_site {
+    ($answer:ty; $($arg:ty),*) => {
+        unsafe extern "C" fn(
+            &[f64; 6], &[u32; 5],
+            *const f64, usize, *const f64, usize,
+            *const u32, usize, *const u32, usize, *const u32, usize, *const u32, usize,
+            $($arg),*
+        ) -> $answer
+    };
+}
+
+macro_rules! draws {
+    ($($mode:ty)?) => {
+        of_site!(u32; &[f64; 5], f64, $($mode,)? &[u32; 9], *mut u32, usize, &mut u32, *mut f64, usize,
+            *mut u32, usize, *mut f64, usize, *mut u32, usize, &mut [u64; 9])
+    };
+}
+
+/// How many rays hit.
+pub type Hits = of_site!(u64; *const f64, usize);
+/// An outline.
+pub type Draw = draws!(u32);
+/// An outline, before there was a mode.
+pub type DrawModeless = draws!();
+
+/// A function that draws an outline. One without a mode draws as mode 0 does.
+#[derive(Clone, Copy)]
+pub enum Drawing {
+    InMode(Draw),
+    Modeless(DrawModeless),
+}
+
+/// This build's, without the test of the tables.
+pub const INNER: Drawing = Drawing::InMode(bf_inner_compute_visibility);
 
 #[link(name = "exports_text", kind = "static")]
 unsafe extern "C" {

@@ -4,10 +4,13 @@
 //!     bench [module..]     times, which decide nothing
 //!     sample FILE FILE     writes the samples for crates `replay` and `replay_sites`, and reads them back
 //!     texts FOLDER         writes texts and their answers, for a reader of Well-Known Text that is not ours
+//!     earlier NOW EARLIER [no-mode]   times beside an earlier build, both as shared objects
 //!
 //! A further crate is compared by a module of its own here, with an entry in a list below.
 
 mod angle;
+#[cfg(published)]
+mod earlier;
 #[cfg(published)]
 mod geom;
 #[cfg(published)]
@@ -102,7 +105,7 @@ const WITH_PUBLISHED: &[Module] = &[
 #[cfg(not(published))]
 const WITH_PUBLISHED: &[Module] = &[];
 
-const USAGE: &str = "usage: compare|bench [module..], or sample FILE FILE, or texts FOLDER";
+const USAGE: &str = "usage: compare|bench [module..], or sample FILE FILE, or texts FOLDER, or earlier NOW EARLIER [no-mode]";
 
 fn main() -> ExitCode {
     let words: Vec<String> = std::env::args().skip(1).collect();
@@ -112,6 +115,7 @@ fn main() -> ExitCode {
     match command.as_str() {
         "sample" => return sample(names),
         "texts" => return texts(names),
+        "earlier" | "earlier-once" => return earlier(command, names),
         _ => (),
     }
     let all: Vec<&Module> = WITH_STD.iter().chain(WITH_PUBLISHED).collect();
@@ -175,6 +179,18 @@ fn texts(words: &[String]) -> ExitCode {
 }
 
 #[cfg(published)]
+fn earlier(command: &str, words: &[String]) -> ExitCode {
+    let no_mode = words.last().is_some_and(|w| w == "no-mode");
+    match (command, &words[..words.len() - usize::from(no_mode)]) {
+        ("earlier", [now, before]) => written(command, earlier::times(now, before, no_mode)),
+        ("earlier-once", [first, now, before]) => {
+            written(command, earlier::once(first, now, before, no_mode))
+        }
+        _ => refuse(USAGE),
+    }
+}
+
+#[cfg(published)]
 fn written(command: &str, done: Result<bool, String>) -> ExitCode {
     match done {
         Ok(true) => ExitCode::SUCCESS,
@@ -193,6 +209,10 @@ fn sample(_: &[String]) -> ExitCode {
 #[cfg(not(published))]
 fn texts(_: &[String]) -> ExitCode {
     not_at_hand("texts")
+}
+#[cfg(not(published))]
+fn earlier(command: &str, _: &[String]) -> ExitCode {
+    not_at_hand(command)
 }
 #[cfg(not(published))]
 fn not_at_hand(command: &str) -> ExitCode {

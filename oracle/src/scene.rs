@@ -2,7 +2,7 @@
 //! makes, and every question, through the C interface that users link (crate `exports_scene`), tests
 //! of the tables included. Besides: each refusal in its order, and questions over damaged tables.
 
-mod bench;
+pub mod bench;
 mod damage;
 pub mod given;
 pub mod lines;

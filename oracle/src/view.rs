@@ -4,7 +4,7 @@
 //! counted by the seams of crate `oracle`. The area of each outline is held against the Rust unaltered.
 //! A cone's own outline is in `cones`, and the mode that credits ties in `ties`.
 
-mod bench;
+pub mod bench;
 mod cones;
 pub mod lines;
 mod ties;

@@ -14,11 +14,14 @@ use std::hint::black_box;
 
 const SIZES: [usize; 4] = [100, 500, 2_000, 4_096];
 const SIDE: f64 = 2_000.0;
-const QUESTIONS: usize = 1_024;
+pub const QUESTIONS: usize = 1_024;
 /// Calls of a run where each takes long.
 const FEW: usize = 8;
 
 const LIMIT: Limit = Limit::Times(1.5);
+
+/// How long the rays are.
+pub const LENGTHS: [f64; 2] = [100.0, 1_000.0];
 
 struct Timed {
     given: Given,
@@ -152,14 +155,19 @@ fn polygon_at(table: &mut Bench, r: &mut SplitMix64, timed: &Timed, polygons: us
     );
 }
 
+/// Rays from anywhere, in any direction.
+pub fn rays(r: &mut SplitMix64, number: usize, length: f64) -> Vec<[f64; 5]> {
+    some(number, || {
+        let (x, y) = (r.between(0.0, SIDE), r.between(0.0, SIDE));
+        let (dx, dy) = (r.between(-1.0, 1.0), r.between(-1.0, 1.0));
+        let n = (dx * dx + dy * dy).sqrt().max(1e-9);
+        [x, y, dx / n, dy / n, length]
+    })
+}
+
 fn cast_ray(table: &mut Bench, r: &mut SplitMix64, timed: &Timed, polygons: usize) {
-    for length in [100.0, 1_000.0] {
-        let rays: Vec<[f64; 5]> = some(QUESTIONS, || {
-            let (x, y) = (r.between(0.0, SIDE), r.between(0.0, SIDE));
-            let (dx, dy) = (r.between(-1.0, 1.0), r.between(-1.0, 1.0));
-            let n = (dx * dx + dy * dy).sqrt().max(1e-9);
-            [x, y, dx / n, dy / n, length]
-        });
+    for length in LENGTHS {
+        let rays = rays(r, QUESTIONS, length);
         let called = black_box(plain::Scene::cast_ray as fn(&_, _, _, _) -> _);
         let rust = |[ox, oy, dx, dy, t]: [f64; 5]| {
             let (o, d) = (plain::Vec2::new(ox, oy), plain::Vec2::new(dx, dy));

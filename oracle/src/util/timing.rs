@@ -253,7 +253,7 @@ pub enum Limit {
 pub const TIED: Limit = Limit::Times(1.3);
 
 impl Limit {
-    fn show(self) -> String {
+    pub fn show(self) -> String {
         match self {
             Self::None => "-".to_string(),
             Self::Times(t) => t.to_string(),
@@ -261,7 +261,7 @@ impl Limit {
     }
 
     /// For throughput, then for latency, if there is one.
-    fn verdict(self, ratios: &[f64]) -> String {
+    pub fn verdict(self, ratios: &[f64]) -> String {
         let Self::Times(t) = self else {
             return "-".to_string();
         };

@@ -2,7 +2,7 @@
 //! tables, and without it, beside the Rust as published, one thread on either side; and in mode 1 beside
 //! ours in mode 0.
 
-use crate::lent::{Cone, Entries, Lent, Work, room_for};
+use crate::lent::{Cone, Drawing, Entries, INNER, Lent, Work, room_for};
 use crate::scene::given::{self, Given};
 use crate::sites::Plan;
 use crate::util::arena;
@@ -21,8 +21,30 @@ const LIMIT: Limit = Limit::Times(1.2);
 const RANGES: [f64; 3] = [100.0, 300.0, 1_000.0];
 
 pub fn bench(table: &mut Bench) {
-    let r = &mut SplitMix64::new(2_001);
-    let sites = SIZES.map(|polygons| {
+    let sites = sites();
+    let mut full = Vec::new();
+    each(&sites, |what, views| {
+        views.rows(table, what);
+        if views.fov > TAU {
+            full.push(views);
+        }
+    });
+    let (smallest, largest) = (&full[..RANGES.len()], &full[full.len() - RANGES.len()..]);
+    for ((range, small), large) in RANGES.iter().zip(smallest).zip(largest) {
+        let (first, last) = (SIZES[0], SIZES[SIZES.len() - 1]);
+        table.add_growth(
+            &format!(
+                "growth of an outline without the table test, {first} to {last} polygons, range {range}, full"
+            ),
+            small,
+            large,
+        );
+    }
+}
+
+/// The sites, by the Rust and as ours are lent.
+pub fn sites() -> [(Scene, Lent); SIZES.len()] {
+    SIZES.map(|polygons| {
         let config = SceneConfig {
             width: SIDE,
             height: SIDE,
@@ -38,31 +60,20 @@ pub fn bench(table: &mut Bench) {
             "a site of ours"
         );
         (scene, site)
-    });
-    let mut full = Vec::new();
-    for (scene, site) in &sites {
+    })
+}
+
+/// What each row is called, and its views.
+pub fn each<'a>(sites: &'a [(Scene, Lent)], mut row: impl FnMut(&str, Views<'a>)) {
+    let r = &mut SplitMix64::new(2_001);
+    for (scene, site) in sites {
         for range in RANGES {
             for (what, fov) in [("full", 7.0), ("90 degrees", FRAC_PI_2)] {
                 let polygons = scene.polygons().len();
                 let what = format!("{polygons} polygons, range {range}, {what}");
-                let views = Views::new(r, scene, site, range, fov);
-                views.rows(table, &what);
-                if fov > TAU {
-                    full.push(views);
-                }
+                row(&what, Views::new(r, scene, site, range, fov));
             }
         }
-    }
-    let (smallest, largest) = (&full[..RANGES.len()], &full[full.len() - RANGES.len()..]);
-    for ((range, small), large) in RANGES.iter().zip(smallest).zip(largest) {
-        let (first, last) = (SIZES[0], SIZES[SIZES.len() - 1]);
-        table.add_growth(
-            &format!(
-                "growth of an outline without the table test, {first} to {last} polygons, range {range}, full"
-            ),
-            small,
-            large,
-        );
     }
 }
 
@@ -82,12 +93,12 @@ fn plan(scene: &Scene) -> Plan {
 }
 
 /// Views of one site, from posts in the open, and the room for them in either mode.
-struct Views<'a> {
+pub struct Views<'a> {
     scene: &'a Scene,
     site: &'a Lent,
     range: f64,
     fov: f64,
-    posts: Vec<[f64; 3]>,
+    pub posts: Vec<[f64; 3]>,
     rooms: [(Entries, RefCell<Work>); 2],
 }
 
@@ -135,8 +146,14 @@ impl<'a> Views<'a> {
 
     /// Ours without the test of the tables.
     fn inner(&self, mode: u32, post: [f64; 3]) -> u64 {
+        self.by(INNER, mode, post)[2]
+    }
+
+    /// The same by a function of any build.
+    pub fn by(&self, f: Drawing, mode: u32, post: [f64; 3]) -> [u64; 9] {
         let (needs, work) = &self.rooms[mode as usize];
-        let (status, answer) = self.site.inner_outline(
+        let (status, answer) = self.site.draw(
+            f,
             self.cone(post),
             TOLERANCE,
             mode,
@@ -144,7 +161,7 @@ impl<'a> Views<'a> {
             &mut work.borrow_mut(),
         );
         assert!(status == 0, "room enough");
-        answer[2]
+        answer
     }
 
     /// Ours with it.
