@@ -27,7 +27,8 @@ const AS_BEFORE: Limit = Limit::Times(1.03);
 /// What a process is told: which object to open first.
 const FIRST: [&str; 2] = ["now-first", "earlier-first"];
 
-/// A call, and what each process measured: now, earlier, and for an outline now in mode 1.
+/// A call, and what each process measured: now and earlier, and for an outline mode 1 and mode 0 of the
+/// present library, which take turns by themselves.
 struct Row {
     what: String,
     runs: Vec<Vec<f64>>,
@@ -112,7 +113,7 @@ fn print(rows: &[Row]) {
         cells.extend([0, 1].map(|side| format!("{:.2}", row.middle(side)[0])));
         cells.extend(shown(AS_BEFORE, row.ratio(0, 1)));
         cells.extend(match row.has_modes() {
-            true => shown(TIED, row.ratio(2, 0)),
+            true => shown(TIED, row.ratio(2, 3)),
             false => ["-"; 3].map(str::to_string),
         });
         table.row(cells);
@@ -124,7 +125,7 @@ fn print(rows: &[Row]) {
         sum_up(&what, AS_BEFORE, &ratios);
     }
     let tied = rows.iter().filter(|row| row.has_modes());
-    let tied: Vec<_> = tied.map(|row| row.ratio(2, 0)).collect();
+    let tied: Vec<_> = tied.map(|row| row.ratio(2, 3)).collect();
     sum_up("outlines, now in mode 1 over mode 0", TIED, &tied);
 }
 
@@ -166,11 +167,12 @@ pub fn once(first: &str, now: &str, earlier: &str, no_mode: bool) -> Result<bool
             let draw = |&post| views.by(build.outline, mode, post)[2];
             views.posts.iter().map(draw).sum()
         };
-        let [b, a, tied] = best(
-            views.posts.len(),
-            [&|| pass(&earlier, 0), &|| pass(&now, 0), &|| pass(&now, 1)],
-        );
-        println!("outline, {what}\t{a}\t{b}\t{tied}");
+        let posts = views.posts.len();
+        let [a, b] = best(posts, [&|| pass(&now, 0), &|| pass(&earlier, 0)]);
+        // Not all three in turn: the two modes are the same code, and it would run twice as often as the
+        // earlier one, whose branches the processor would then know less well.
+        let [tied, level] = best(posts, [&|| pass(&now, 1), &|| pass(&now, 0)]);
+        println!("outline, {what}\t{a}\t{b}\t{tied}\t{level}");
     });
     let r = &mut SplitMix64::new(1_901);
     // The processor learns some of the few by heart, more or fewer as the code lies; not the many.
@@ -183,7 +185,7 @@ pub fn once(first: &str, now: &str, earlier: &str, no_mode: bool) -> Result<bool
             );
             let pass = |build: &Build| site.hits_by(build.hits, black_box(&asked));
             assert_eq!(pass(&now), pass(&earlier), "{what}: the same answer");
-            let [b, a] = best(number, [&|| pass(&earlier), &|| pass(&now)]);
+            let [a, b] = best(number, [&|| pass(&now), &|| pass(&earlier)]);
             println!("{what}\t{a}\t{b}");
         }
     }
@@ -192,12 +194,12 @@ pub fn once(first: &str, now: &str, earlier: &str, no_mode: bool) -> Result<bool
 
 /// The best turn of each side, in nanoseconds for each of the questions that a pass asks. The sides
 /// take turns, so that all see the same machine.
-fn best<const N: usize>(questions: usize, sides: [&dyn Fn() -> u64; N]) -> [f64; N] {
-    let mut best = [f64::INFINITY; N];
+fn best(questions: usize, sides: [&dyn Fn() -> u64; 2]) -> [f64; 2] {
+    let mut best = [f64::INFINITY; 2];
     for _ in 0..TURNS {
         for (best, pass) in best.iter_mut().zip(sides) {
-            // One turn is not counted. The processor learns the branches of a few posts by heart, so
-            // mode 1 right after mode 0, the same code, would seem quicker by a tenth.
+            // One turn is not counted: the processor learns the branches of a few posts by heart, and
+            // forgets them while the other side runs.
             turn(pass);
             *best = best.min(turn(pass) / questions as f64);
         }
