@@ -1,6 +1,7 @@
--- THE CREDITS OF A CAST. In mode 0 the edge that it hit alone (`credits-rust`), and so it is where it was not tied (`further-none`). In the other: the edge answered
--- is one of them (`credits-answer`); each of them is the edge answered or a tied one (`credits-tied`); no owner has two (`credits-once`); and every owner of a tied edge, of the 4,096 that a sound site may have, has
--- one (`credits-every`). Below: each way through `credit`, over plain values. Assumes nothing.
+-- THE CREDITS OF A CAST. In mode 0 the edge that it hit alone (`credits-rust`). A cast that was not tied has no further ones, in either mode (`further-none`). In the
+-- other mode, given the edge answered: that is one of them (`credits-answer`); each of them is that edge or a tied one (`credits-tied`); no owner has two
+-- (`credits-once`); and every owner of a tied edge, of the 4,096 that a sound site may have, has one (`credits-every`). Below: each way through `further` and
+-- `credit`, over plain values. Assumes nothing.
 use mathlib.Core.Path.{_≡_, refl, sym, ap, _∙_, subst}
 use mathlib.Core.Logic.{_⊎_, inl, inr, ⊎-elim}
 use mathlib.Core.Bool.{Bool, true, false, cond}

@@ -49,7 +49,8 @@ unfoldable pub furtherOf : Index → List ℕ → Vec2 → Float → Vec2 → Fl
 unfolding castOf testedIn tiedNumbers noMarks
 furtherOf x owners o angle dir max = cond (eqb (x .head .mode) 0) [] (furtherBy x owners o angle dir max (castOf x o angle dir max))
 
--- all of that cast, which hit the edge e: the further ones, and the one that the Rust credits
+-- all of that cast, which hit the edge e: the further ones, and e itself. Who asks gives the edge that the cast answered, and no other; so the owner of that edge has
+-- its entry by e
 unfoldable pub creditsOf : Index → List ℕ → Vec2 → Float → Vec2 → Float → ℕ → List ℕ
 unfolding furtherOf
 creditsOf x owners o angle dir max e = furtherOf x owners o angle dir max ++ (e ∷ [])

@@ -1,6 +1,6 @@
 // The sweep: the samples in order of angle are walked, and the outline and the marks of the polygons seen are made (`visibility.rs`, lines 419 to 510).
 // Each sample puts its own point on the outline; between it and the next one lie the corners of an event, an arc of the range circle, or a crossing of
-// two edges. The samples and their directions are read through their order from the work room; of the words only the last stretch is written, by the
+// two edges. The samples, their directions and ties are read through their order from the work room; of the words only the last stretch is written, by the
 // corners seen.
 // Meanings: specs/Sweep.antt.
 use cone::View;
@@ -423,7 +423,7 @@ fn begin(pts: &mut [f64], view: View) -> Trace
     outline::push(pts, outline::empty(), o, o, CORNER)
 }
 
-// The outline of the n samples that stand in the work room with their directions, and the marks of the polygons seen. `step` is the arc's.
+// The outline of the n samples that stand in the work room with their directions and ties, and the marks of the polygons seen. `step` is the arc's.
 pub fn sweep(
     k: Rooms,
     x: AngularIndex,
