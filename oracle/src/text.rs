@@ -1,13 +1,15 @@
 //! Crate `planner`, the text program's whole answer (crate `exports_text`): byte for byte the answer
-//! that is worked out here from document 01's words and the published Rust, with both substitutions
-//! (`text/expected.rs`). Texts as laid out, in rooms that are just enough, longer and too short; and
-//! damaged ones, refused 9 exactly where a second reader, of another shape, says so.
+//! that is worked out here from the documents' words and the published Rust, with both substitutions
+//! (`text/expected.rs`). Texts as laid out, in rooms that are just enough, longer and too short; the same
+//! as a survey office writes them; and damaged ones, refused 9 exactly where a second reader, of another
+//! shape, says so.
 
 mod damage;
 mod expected;
 mod inputs;
 mod print;
 mod reader;
+mod survey;
 mod write;
 
 pub use write::write;
@@ -21,33 +23,38 @@ use expected::{ENTRIES, Expected, MOST_CELLS, MOST_OUTLINE};
 use inputs::Text;
 use std::collections::HashSet;
 use std::hash::{DefaultHasher, Hasher};
+use survey::Survey;
 
 pub fn compare() -> bool {
     let printer = print::held();
     let mut held = Held::new();
+    let mut survey = Survey::new();
     let mut table = counts_table("inputs: texts");
     for (i, group) in inputs::groups().iter().enumerate() {
         let r = &mut SplitMix64::new(8_000 + i as u64);
+        let s = &mut SplitMix64::new(8_200 + i as u64);
         let mut counts = Counts::default();
         for _ in 0..group.texts {
             let text = (group.make)(r);
             let expected = expected::answer(&text);
             counts.add(&expected);
             held.whole(r, &text, &expected);
+            survey.hold(s, &text, &mut held.asked);
         }
         table.row(counts.row(group.what));
-        held.all.join(counts);
+        held.all.join(&counts);
     }
     table.row(held.all.row("all"));
     table.print();
     held.reach.print();
+    survey.print();
     let mut table = counts_table("inputs: damaged texts");
     let mut all = Counts::default();
     for (i, kind) in damage::kinds().iter().enumerate() {
         let r = &mut SplitMix64::new(8_500 + i as u64);
         let counts = held.damaged(r, kind);
         table.row(counts.row(kind.what));
-        all.join(counts);
+        all.join(&counts);
     }
     table.row(all.row("all"));
     table.print();
@@ -56,6 +63,9 @@ pub fn compare() -> bool {
         held.exact,
         held.longer,
         held.short,
+        survey.worked_out,
+        survey.capitals,
+        survey.over,
         held.damaged,
         printer,
     ])
@@ -83,7 +93,7 @@ impl Counts {
         self.0[expected.number as usize] += 1;
     }
 
-    fn join(&mut self, other: Self) {
+    fn join(&mut self, other: &Self) {
         self.0.iter_mut().zip(other.0).for_each(|(n, m)| *n += m);
     }
 
@@ -211,6 +221,16 @@ fn hold(tally: &mut Tally, text: &[u8], expected: &[u8], room: usize) {
     tally.add(Given(text), Told(n, &out), Told(expected.len(), &all));
 }
 
+/// What `expected::answer` says.
+const WORKED_OUT: &str = "worked out here, by the Rust";
+
+/// Our whole answer.
+fn ours(text: &[u8]) -> Text {
+    let mut out = vec![0; lent::answer(text, &mut [])];
+    lent::answer(text, &mut out);
+    out
+}
+
 struct Held {
     sample: Tally,
     exact: Tally,
@@ -239,13 +259,12 @@ impl Held {
     fn new() -> Self {
         let mut sample = Tally::new(["answer to document 01's example", "its words"]);
         hold(&mut sample, SAMPLE[0], SAMPLE[1], SAMPLE[1].len());
-        let worked_out = "worked out here, by the Rust";
         Self {
             sample,
-            exact: Tally::new(["answer, room just enough", worked_out]),
+            exact: Tally::new(["answer, room just enough", WORKED_OUT]),
             longer: Tally::new(["longer room", "zeros after it"]),
             short: Tally::new(["room too short", "what fits, the same length"]),
-            damaged: Tally::new(["answer to a damaged text", worked_out]),
+            damaged: Tally::new(["answer to a damaged text", WORKED_OUT]),
             all: Counts::default(),
             reach: Reach::default(),
             asked: HashSet::new(),

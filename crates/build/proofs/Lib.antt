@@ -1,4 +1,4 @@
--- Laws behind the proofs of `build`, and the theorems: BuiltSound, BuiltIndex, Only, Refusing, RefusedWhen.
+-- Laws behind the proofs of `build`, and the theorems: BuiltSound, BuiltIndex, InPlace, Only, Refusing, RefusedWhen.
 pub mod Orders
 pub mod Writing
 pub mod Spans
@@ -9,6 +9,7 @@ pub mod Laid
 pub mod Making
 pub mod BuiltSound
 pub mod BuiltIndex
+pub mod InPlace
 pub mod Only
 pub mod Refusing
 pub mod RefusedWhen

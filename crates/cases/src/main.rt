@@ -1,7 +1,7 @@
 // The cases of the text program: each refusal that a text can meet, the texts on both sides of a limit, and texts that are answered
-// (document 01, "The text program" and "Refusal numbers"). Standard input holds them one after the other:
+// (document 01, "The text program" and "Refusal numbers"; document 02, Q-2). Standard input holds them one after the other:
 //   a line BYTES NAME; so many bytes, which are the text, whatever they are; LF.
-// So a text that ends with LF is followed by an empty line. The name says what document 01 asks for. Each case's line is printed again, and after it
+// So a text that ends with LF is followed by an empty line. The name says what the documents ask for. Each case's line is printed again, and after it
 // what `planner::answer` answers.
 use libc::STDIN_FILENO;
 use libc::STDOUT_FILENO;

@@ -14,7 +14,7 @@ use borrow.Author.Tests.{eqb-true, eqb-false, lt-ltb, le-ltb}
 use borrow.Rule.Slice.PartMut.{mid-len}
 use Rattle.lists.specs.Lists.{joined, sumTo}
 use Rattle.lists.specs.Parts.{padded}
-use Rattle.lists.specs.Members.{In, NoDup, AllBelow}
+use Rattle.lists.specs.Members.{In, NoDup, All, AllBelow}
 use Rattle.lists.proofs.Sums.{sumTo-ext}
 use Rattle.lists.proofs.Members.{at-all}
 use Rattle.lists.proofs.Parts.{getD-part}
@@ -122,15 +122,19 @@ entries-count g r starts items =
     (λ j. sumTo (λ i. length (cellOf starts items ((r .r0 + j) * g .cols + r .c0 + i))) (suc (r .c1) - r .c0)) (suc (r .r1) - r .r0)
     (λ j h. length-joined (λ i. cellOf starts items ((r .r0 + j) * g .cols + r .c0 + i)) (suc (r .c1) - r .c0))
 
--- a cell's entries are items, so they are ids
-pub cell-named : {cols rows : ℕ} {starts items : List ℕ} (n c : ℕ) → SoundGrid cols rows starts items → Named (cols * rows) starts items n → c < cols * rows → AllBelow n (cellOf starts items c)
-cell-named {cols} {rows} {starts} {items} n c s ids h =
+-- a cell's entries are items, so they have what all items have
+pub cell-all : {cols rows : ℕ} {starts items : List ℕ} (P : ℕ → Type 0) (c : ℕ) → SoundGrid cols rows starts items → ((i : ℕ) → i < getD starts (cols * rows) 0 → P (getD items i 0)) → c < cols * rows → All P (cellOf starts items c)
+cell-all {cols} {rows} {starts} {items} P c s has h =
     let o = row-of s c 1 (omega arith) in
     let z : getD starts (suc c) 0 ≤ getD starts (cols * rows) 0 = start-last s (suc c) h in
-    at-all (λ (x : ℕ). x < n) (cellOf starts items c) 0
+    at-all P (cellOf starts items c) 0
     (λ i k.
     let l : i < getD starts (suc c) 0 - getD starts c 0 = omega (arith, k, mid-len (getD starts c 0) (getD starts (suc c) 0) items (omega (arith, s .last))) in
-    rw (getD-part (getD starts c 0) (getD starts (suc c) 0) items i 0 l) (ids (getD starts c 0 + i) (omega arith)))
+    rw (getD-part (getD starts c 0) (getD starts (suc c) 0) items i 0 l) (has (getD starts c 0 + i) (omega arith)))
+
+-- they are ids
+pub cell-named : {cols rows : ℕ} {starts items : List ℕ} (n c : ℕ) → SoundGrid cols rows starts items → Named (cols * rows) starts items n → c < cols * rows → AllBelow n (cellOf starts items c)
+cell-named n = cell-all (λ (x : ℕ). x < n)
 
 entries-named : (g : Grid) (r : CellRange) (starts items : List ℕ) (n : ℕ) → InGrid g r → SoundGrid (g .cols) (g .rows) starts items → Named (g .cols * g .rows) starts items n
     → AllBelow n (entriesIn g r starts items)

@@ -1,5 +1,7 @@
--- The laws under the functions of `wkt`, and its theorems: Nearest and Written, that a number is read as the nearest float; Stored, what a caller finds.
+-- The laws under the functions of `wkt`, and its theorems: Nearest and Written, that a number is read as the nearest float; Stored, what a caller finds;
+-- Raised, that the case of letters tells nothing; Wider and Before, that what was read before is read the same, and that nothing else moves.
 pub mod Compare
+pub mod Letters
 pub mod Numerals
 pub mod Floats
 pub mod Nearest
@@ -10,3 +12,6 @@ pub mod Only
 pub mod Rings
 pub mod Lined
 pub mod Texts
+pub mod Raised
+pub mod Wider
+pub mod Before

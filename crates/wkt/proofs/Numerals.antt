@@ -13,26 +13,27 @@ use lib.Seq.{drop-drop}
 use Rattle.lists.proofs.Parts.{drop-here}
 use lib.Dec.{leb, eqb}
 use borrow.Author.Tests.{leb-true, leb-false, le-leb, lt-leb}
-use Rattle.wkt.specs.Parse.{got, wrong, starts, run, past, valueOf}
+use Rattle.wkt.specs.Parse.{got, wrong, starts, spells, run, past, valueOf}
 use Rattle.wkt.specs.Cursor.{headDigit, numberOn}
 use Rattle.wkt.specs.declared.Number.{Number}
 use Rattle.wkt.specs.declared.Number.the-variants as N
 use Rattle.wkt.specs.Number.{digits, digitsOf, decimal, unsigned, number}
 
--- ---- a byte at a cursor
-pub starts-in : (s : List ℕ) (at b : ℕ) → at < length s → eqb (getD s at 0) b ≡ starts b (drop at s)
-starts-in s at b h = ap (starts b) (sym (drop-here s at 0 h))
+-- ---- a byte at a cursor, by what it counts as
+module _ (g : ℕ → ℕ) (s : List ℕ) (at b : ℕ) where
+  pub spells-in : at < length s → eqb (g (getD s at 0)) b ≡ spells g b (drop at s)
+  spells-in h = ap (spells g b) (sym (drop-here s at 0 h))
 
-pub starts-end : (s : List ℕ) (at b : ℕ) → length s ≤ at → false ≡ starts b (drop at s)
-starts-end s at b h = ap (starts b) (sym (drop-of-length-le s h))
+  pub spells-end : length s ≤ at → false ≡ spells g b (drop at s)
+  spells-end h = ap (spells g b) (sym (drop-of-length-le s h))
 
--- where a byte stands, the cursor is inside the text
-inside-by : (s : List ℕ) (at b : ℕ) (t : Bool) → leb (length s) at ≡ t → starts b (drop at s) ≡ true → at < length s
-inside-by s at b true e h = absurd (true≢false (sym h ∙ sym (starts-end s at b (leb-true _ _ e))))
-inside-by s at b false e h = leb-false _ _ e
+  -- where a byte stands, the cursor is inside the text
+  inside-by : (t : Bool) → leb (length s) at ≡ t → spells g b (drop at s) ≡ true → at < length s
+  inside-by true e h = absurd (true≢false (sym h ∙ sym (spells-end (leb-true _ _ e))))
+  inside-by false e h = leb-false _ _ e
 
-pub inside : (s : List ℕ) (at b : ℕ) → starts b (drop at s) ≡ true → at < length s
-inside s at b = inside-by s at b (leb (length s) at) refl
+  pub inside : spells g b (drop at s) ≡ true → at < length s
+  inside = inside-by (leb (length s) at) refl
 
 -- ---- a digit at a cursor
 pub digit-is : (b : ℕ) (t : List ℕ) → 48 ≤ b → b ≤ 57 → b - 48 ≡ headDigit (b ∷ t)

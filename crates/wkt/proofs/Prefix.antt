@@ -8,7 +8,7 @@ use native.Mathlib.Omega.{arith}
 use lib.ListN.{length, getD, drop, length-drop}
 use lib.Dec.{eqb}
 use Rattle.lists.proofs.Parts.{drop-here}
-use Rattle.wkt.specs.Parse.{Parse, got, wrong, andThen, join, starts, begins, onlyIf, word}
+use Rattle.wkt.specs.Parse.{Parse, got, wrong, andThen, join, spells, begins, onlyIf, word}
 
 module _ {A : Type 0} where
   pub not-wrong : (a : A) (t : List ℕ) → got a t ≡ wrong → ⊥
@@ -32,28 +32,29 @@ module _ {A : Type 0} where
   prefixed-nil (got ps t) = refl
   prefixed-nil wrong = refl
 
--- ---- words
-pub begins-step : (v : List ℕ) (t : List ℕ) (i : ℕ) (b : Bool) → i < length v → starts (getD v i 0) t ≡ b → begins (drop i v) t ≡ (b && begins (drop (i + 1) v) (drop 1 t))
-begins-step v t i b h e = rw (drop-here v i 0 h, e)
-
--- a word that begins a text is no longer than it
-begins-length : (v t : List ℕ) → begins v t ≡ true → length v ≤ length t
-begins-length [] t e = omega arith
-begins-length (x ∷ v) [] e = absurd (false≢true e)
-begins-length (x ∷ v) (y ∷ t) e = let h = begins-length v t (and-eq-true-iff (eqb y x) (begins v t) .0 e .1) in omega arith
-
-pub begins-room : (v s : List ℕ) (at : ℕ) → begins v (drop at s) ≡ true → 0 < length v → at + length v ≤ length s
-begins-room v s at e h = omega (arith, begins-length v (drop at s) e, length-drop at s)
-
-pub word-yes : {A : Type 0} (v t : List ℕ) (k : List ℕ → Parse A) → begins v t ≡ true → k (drop (length v) t) ≡ word v t k
-word-yes v t k e = rw e
-
-pub word-no : {A : Type 0} (v t : List ℕ) (k : List ℕ → Parse A) → begins v t ≡ false → wrong ≡ word v t k
-word-no v t k e = rw e
-
+-- ---- words, by what a byte counts as
 word-then-by : {A B : Type 0} (c : Bool) (t : List ℕ) (k : List ℕ → Parse A) (g : A → List ℕ → Parse B) → onlyIf c (λ b. andThen (k b) g) t ≡ andThen (onlyIf c k t) g
 word-then-by true t k g = refl
 word-then-by false t k g = refl
 
-pub word-then : {A B : Type 0} (v t : List ℕ) (k : List ℕ → Parse A) (g : A → List ℕ → Parse B) → word v t (λ b. andThen (k b) g) ≡ andThen (word v t k) g
-word-then v t k g = word-then-by (begins v t) (drop (length v) t) k g
+module _ (g : ℕ → ℕ) where
+  pub begins-step : (v : List ℕ) (t : List ℕ) (i : ℕ) (b : Bool) → i < length v → spells g (getD v i 0) t ≡ b → begins g (drop i v) t ≡ (b && begins g (drop (i + 1) v) (drop 1 t))
+  begins-step v t i b h e = rw (drop-here v i 0 h, e)
+
+  -- a word that begins a text is no longer than it
+  begins-length : (v t : List ℕ) → begins g v t ≡ true → length v ≤ length t
+  begins-length [] t e = omega arith
+  begins-length (x ∷ v) [] e = absurd (false≢true e)
+  begins-length (x ∷ v) (y ∷ t) e = let h = begins-length v t (and-eq-true-iff (eqb (g y) x) (begins g v t) .0 e .1) in omega arith
+
+  pub begins-room : (v s : List ℕ) (at : ℕ) → begins g v (drop at s) ≡ true → 0 < length v → at + length v ≤ length s
+  begins-room v s at e h = omega (arith, begins-length v (drop at s) e, length-drop at s)
+
+  pub word-yes : {A : Type 0} (v t : List ℕ) (k : List ℕ → Parse A) → begins g v t ≡ true → k (drop (length v) t) ≡ word g v t k
+  word-yes v t k e = rw e
+
+  pub word-no : {A : Type 0} (v t : List ℕ) (k : List ℕ → Parse A) → begins g v t ≡ false → wrong ≡ word g v t k
+  word-no v t k e = rw e
+
+  pub word-then : {A B : Type 0} (v t : List ℕ) (k : List ℕ → Parse A) (h : A → List ℕ → Parse B) → word g v t (λ b. andThen (k b) h) ≡ andThen (word g v t k) h
+  word-then v t k h = word-then-by (begins g v t) (drop (length v) t) k h

@@ -11,8 +11,9 @@ use lib.Dec.{leb}
 use lib.Ieee.{Float}
 use Rattle.wkt.specs.Limits.{leastRing}
 use Rattle.wkt.specs.Words.{comma}
-use Rattle.wkt.specs.Parse.{Parse, got, wrong, andThen, join, starts, onlyIf, word}
+use Rattle.wkt.specs.Parse.{Parse, got, wrong, andThen, join, spells, starts, onlyIf, word}
 use Rattle.wkt.specs.Number.{number}
+use Rattle.wkt.specs.Rules.{Rules}
 use Rattle.wkt.specs.Grammar.{Point, point, pair, after, points, same, lastOf, closed, opened, closing, ring}
 use Rattle.wkt.specs.Answer.{coords}
 use Rattle.wkt.specs.Cursor.{pairOn, counted, StoredBy}
@@ -23,21 +24,21 @@ use Rattle.wkt.proofs.Prefix.{prefixed, prefixed-join, prefixed-nil, wo
 use Rattle.wkt.proofs.Stored.{point-more}
 
 -- ---- a pair
-module _ (w f : ℕ) (t : List ℕ) where
-  pub pair-none : number w f t ≡ wrong → wrong ≡ pair w f t
+module _ (how : Rules) (t : List ℕ) where
+  pub pair-none : number (how .whole) (how .part) t ≡ wrong → wrong ≡ pair how t
   unfolding pair
   pair-none e = rw e
 
-  module _ (x : Float) (a : List ℕ) (e : number w f t ≡ got x a) where
-    pub pair-gap : starts 32 a ≡ false → wrong ≡ pair w f t
+  module _ (x : Float) (a : List ℕ) (e : number (how .whole) (how .part) t ≡ got x a) where
+    pub pair-gap : spells (how .letter) 32 a ≡ false → wrong ≡ pair how t
     unfolding pair
     pair-gap p = rw (e, p)
 
-    pub pair-cut : starts 32 a ≡ true → number w f (drop 1 a) ≡ wrong → wrong ≡ pair w f t
+    pub pair-cut : spells (how .letter) 32 a ≡ true → number (how .whole) (how .part) (drop 1 a) ≡ wrong → wrong ≡ pair how t
     unfolding pair
     pair-cut p q = rw (e, p, q)
 
-    pub pair-done : (y : Float) (b : List ℕ) → starts 32 a ≡ true → number w f (drop 1 a) ≡ got y b → got (point x y) b ≡ pair w f t
+    pub pair-done : (y : Float) (b : List ℕ) → spells (how .letter) 32 a ≡ true → number (how .whole) (how .part) (drop 1 a) ≡ got y b → got (point x y) b ≡ pair how t
     unfolding pair
     pair-done y b p q = rw (e, p, q)
 
@@ -63,32 +64,32 @@ closed-is [] p = refl
 closed-is (q ∷ qs) p = ap (λ (z : Point). same z q) (last-snoc q qs p)
 
 -- what is read after a point p, with n more tried
-abbrev rest : ℕ → ℕ → ℕ → Point → List ℕ → Parse (List Point)
-rest w f n p a = after (starts 44 a) p a (points w f n)
+abbrev rest : Rules → ℕ → Point → List ℕ → Parse (List Point)
+rest how n p a = after how (starts 44 a) p a (points how n)
 
-points-suc : (w f m n : ℕ) (t : List ℕ) → m ≡ suc n → points w f m t ≡ andThen (pair w f t) (rest w f n)
+points-suc : (how : Rules) (m n : ℕ) (t : List ℕ) → m ≡ suc n → points how m t ≡ andThen (pair how t) (rest how n)
 unfolding points
-points-suc w f m n t e = rw e
+points-suc how m n t e = rw e
 
 -- what has been read of a ring from `at` on: the points `before` and (x, y), up to i
-pub record Taken (w f : ℕ) (s : List ℕ) (at : ℕ) (pts₀ : List Float) (k : ℕ) (x0 y0 : Float) (pts : List Float) (x y : Float) (i n : ℕ) : Type 0 where
+pub record Taken (how : Rules) (s : List ℕ) (at : ℕ) (pts₀ : List Float) (k : ℕ) (x0 y0 : Float) (pts : List Float) (x y : Float) (i n : ℕ) : Type 0 where
   pub before : List Point
   pub count : length before ≡ n
-  pub parse : points w f (length (drop at s)) (drop at s) ≡ prefixed before (rest w f (length s - at - 1 - n) (point x y) (drop i s))
+  pub parse : points how (length (drop at s)) (drop at s) ≡ prefixed before (rest how (length s - at - 1 - n) (point x y) (drop i s))
   pub kept-in : pts ≡ sets pts₀ (2 * k) (coords before)
   pub head : headOr (point x y) before ≡ point x0 y0
   pub within : i ≤ length s
   pub moved : at + n < i
 
-pub taken-start : (w f : ℕ) (s : List ℕ) (at : ℕ) (pts : List Float) (k : ℕ) (x y : Float) (i : ℕ) → pair w f (drop at s) ≡ got (point x y) (drop i s) → at < i → i ≤ length s → Taken w f s at pts k x y pts x y i 0
-taken-start w f s at pts k x y i e h g =
+pub taken-start : (how : Rules) (s : List ℕ) (at : ℕ) (pts : List Float) (k : ℕ) (x y : Float) (i : ℕ) → pair how (drop at s) ≡ got (point x y) (drop i s) → at < i → i ≤ length s → Taken how s at pts k x y pts x y i 0
+taken-start how s at pts k x y i e h g =
     let m : length (drop at s) ≡ suc (length s - at - 1 - 0) = omega (arith, length-drop at s) in
     record {
       before = [];
       count = refl;
       parse =
-          points-suc w f (length (drop at s)) (length s - at - 1 - 0) (drop at s) m
-          ∙ ap (λ (r : Parse Point). andThen r (rest w f (length s - at - 1 - 0))) e
+          points-suc how (length (drop at s)) (length s - at - 1 - 0) (drop at s) m
+          ∙ ap (λ (r : Parse Point). andThen r (rest how (length s - at - 1 - 0))) e
           ∙ sym (prefixed-nil _);
       kept-in = refl;
       head = refl;
@@ -96,24 +97,24 @@ taken-start w f s at pts k x y i e h g =
       moved = omega arith;
     }
 
-module _ (w f : ℕ) (s : List ℕ) (at : ℕ) (pts₀ : List Float) (k : ℕ) (x0 y0 : Float) (pts : List Float) (x y : Float) (i n : ℕ) (r : Taken w f s at pts₀ k x0 y0 pts x y i n) where
-  step : (z : Parse Point) → starts 44 (drop i s) ≡ true → word comma (drop i s) (pair w f) ≡ z
-      → points w f (length (drop at s)) (drop at s) ≡ prefixed (r .before ++ (point x y ∷ [])) (andThen z (rest w f (length s - at - 1 - (n + 1))))
+module _ (how : Rules) (s : List ℕ) (at : ℕ) (pts₀ : List Float) (k : ℕ) (x0 y0 : Float) (pts : List Float) (x y : Float) (i n : ℕ) (r : Taken how s at pts₀ k x0 y0 pts x y i n) where
+  step : (z : Parse Point) → starts 44 (drop i s) ≡ true → word (how .letter) comma (drop i s) (pair how) ≡ z
+      → points how (length (drop at s)) (drop at s) ≡ prefixed (r .before ++ (point x y ∷ [])) (andThen z (rest how (length s - at - 1 - (n + 1))))
   step z c e =
-      let l = inside s i 44 c in
+      let l = inside (λ x. x) s i 44 c in
       let d = r .moved in
       let m : length s - at - 1 - n ≡ suc (length s - at - 1 - (n + 1)) = omega arith in
-      let g = rest w f (length s - at - 1 - (n + 1)) in
-      let q : _≡_ {A = List ℕ → Parse (List Point)} (points w f (length s - at - 1 - n)) (λ (b : List ℕ). andThen (pair w f b) g) = fun-ext (λ b. points-suc w f _ _ b m) in
+      let g = rest how (length s - at - 1 - (n + 1)) in
+      let q : _≡_ {A = List ℕ → Parse (List Point)} (points how (length s - at - 1 - n)) (λ (b : List ℕ). andThen (pair how b) g) = fun-ext (λ b. points-suc how _ _ b m) in
       r .parse
-      ∙ ap (λ (z : Bool). prefixed (r .before) (after z (point x y) (drop i s) (points w f (length s - at - 1 - n)))) c
-      ∙ ap (λ (z : List ℕ → Parse (List Point)). prefixed (r .before) (join (point x y) (word comma (drop i s) z))) q
-      ∙ prefixed-join (r .before) (point x y) (word comma (drop i s) (λ (b : List ℕ). andThen (pair w f b) g))
-      ∙ ap (prefixed (r .before ++ (point x y ∷ []))) (word-then comma (drop i s) (pair w f) g ∙ ap (λ (z : Parse Point). andThen z g) e)
+      ∙ ap (λ (z : Bool). prefixed (r .before) (after how z (point x y) (drop i s) (points how (length s - at - 1 - n)))) c
+      ∙ ap (λ (z : List ℕ → Parse (List Point)). prefixed (r .before) (join (point x y) (word (how .letter) comma (drop i s) z))) q
+      ∙ prefixed-join (r .before) (point x y) (word (how .letter) comma (drop i s) (λ (b : List ℕ). andThen (pair how b) g))
+      ∙ ap (prefixed (r .before ++ (point x y ∷ []))) (word-then (how .letter) comma (drop i s) (pair how) g ∙ ap (λ (z : Parse Point). andThen z g) e)
 
-  pub taken-more : (x1 y1 : Float) (j : ℕ) (pts' : List Float) → starts 44 (drop i s) ≡ true → word comma (drop i s) (pair w f) ≡ got (point x1 y1) (drop j s) → i < j → j ≤ length s
+  pub taken-more : (x1 y1 : Float) (j : ℕ) (pts' : List Float) → starts 44 (drop i s) ≡ true → word (how .letter) comma (drop i s) (pair how) ≡ got (point x1 y1) (drop j s) → i < j → j ≤ length s
       → pts' ≡ sets pts (2 * (k + n)) (x ∷ y ∷ [])
-      → Taken w f s at pts₀ k x0 y0 pts' x1 y1 j (n + 1)
+      → Taken how s at pts₀ k x0 y0 pts' x1 y1 j (n + 1)
   taken-more x1 y1 j pts' c e h g p =
       record {
         before = r .before ++ (point x y ∷ []);
@@ -125,7 +126,7 @@ module _ (w f : ℕ) (s : List ℕ) (at : ℕ) (pts₀ : List Float) (k : ℕ) (
         moved = let d = r .moved in omega arith;
       }
 
-  pub taken-cut : starts 44 (drop i s) ≡ true → word comma (drop i s) (pair w f) ≡ wrong → ring w f (drop at s) ≡ wrong
+  pub taken-cut : starts 44 (drop i s) ≡ true → word (how .letter) comma (drop i s) (pair how) ≡ wrong → ring how (drop at s) ≡ wrong
   unfolding ring
   taken-cut c e = ap (λ (z : Parse (List Point)). andThen z closing) (step wrong c e)
 
@@ -140,27 +141,27 @@ module _ (w f : ℕ) (s : List ℕ) (at : ℕ) (pts₀ : List Float) (k : ℕ) (
   test : (leb leastRing (length (r .before ++ (point x y ∷ []))) && closed (r .before ++ (point x y ∷ []))) ≡ (leb leastRing (n + 1) && same (point x y) (point x0 y0))
   test = rw (len, closed-is (r .before) (point x y), r .head)
 
-  final : (b : Bool) → starts 44 (drop i s) ≡ false → (leb leastRing (n + 1) && same (point x y) (point x0 y0)) ≡ b → ring w f (drop at s) ≡ onlyIf b (λ c. got (r .before) c) (drop i s)
+  final : (b : Bool) → starts 44 (drop i s) ≡ false → (leb leastRing (n + 1) && same (point x y) (point x0 y0)) ≡ b → ring how (drop at s) ≡ onlyIf b (λ c. got (r .before) c) (drop i s)
   unfolding ring
   final b c e =
-      ap (λ (z : Parse (List Point)). andThen z closing) (r .parse ∙ ap (λ (z : Bool). prefixed (r .before) (after z (point x y) (drop i s) (points w f (length s - at - 1 - n)))) c)
+      ap (λ (z : Parse (List Point)). andThen z closing) (r .parse ∙ ap (λ (z : Bool). prefixed (r .before) (after how z (point x y) (drop i s) (points how (length s - at - 1 - n)))) c)
       ∙ ap (λ (z : Bool). onlyIf z (λ b. got (opened (r .before ++ (point x y ∷ []))) b) (drop i s)) (test ∙ e)
       ∙ ap (λ (z : List Point). onlyIf b (λ c. got z c) (drop i s)) opens
 
-  pub taken-done : starts 44 (drop i s) ≡ false → (leb leastRing (n + 1) && same (point x y) (point x0 y0)) ≡ true → ring w f (drop at s) ≡ got (r .before) (drop i s)
+  pub taken-done : starts 44 (drop i s) ≡ false → (leb leastRing (n + 1) && same (point x y) (point x0 y0)) ≡ true → ring how (drop at s) ≡ got (r .before) (drop i s)
   taken-done c e = final true c e
 
-  pub taken-open : starts 44 (drop i s) ≡ false → (leb leastRing (n + 1) && same (point x y) (point x0 y0)) ≡ false → ring w f (drop at s) ≡ wrong
+  pub taken-open : starts 44 (drop i s) ≡ false → (leb leastRing (n + 1) && same (point x y) (point x0 y0)) ≡ false → ring how (drop at s) ≡ wrong
   taken-open c e = final false c e
 
-none-by : (w f n : ℕ) (t : List ℕ) → pair w f t ≡ wrong → points w f n t ≡ wrong
+none-by : (how : Rules) (n : ℕ) (t : List ℕ) → pair how t ≡ wrong → points how n t ≡ wrong
 unfolding points
-none-by w f zero t e = refl
-none-by w f (suc n) t e = rw e
+none-by how zero t e = refl
+none-by how (suc n) t e = rw e
 
-pub ring-none : (w f : ℕ) (t : List ℕ) → pair w f t ≡ wrong → ring w f t ≡ wrong
+pub ring-none : (how : Rules) (t : List ℕ) → pair how t ≡ wrong → ring how t ≡ wrong
 unfolding ring
-ring-none w f t e = ap (λ (z : Parse (List Point)). andThen z closing) (none-by w f (length t) t e)
+ring-none how t e = ap (λ (z : Parse (List Point)). andThen z closing) (none-by how (length t) t e)
 
 -- ---- what an answer says, from what the grammar gives
 pub post-wrong : (r : Parse (List Point)) (l : List Float) (k : ℕ) (q : List Float) → r ≡ wrong → (wrong ≡ counted r) × (Unit {0} × StoredBy r l k q)
@@ -168,3 +169,6 @@ post-wrong r l k q e = (rw e, (tt, subst (λ (z : Parse (List Point)). StoredBy 
 
 pub post-read : (r : Parse (List Point)) (ps : List Point) (n : ℕ) (t : List ℕ) (l : List Float) (k : ℕ) (q : List Float) → r ≡ got ps t → length ps ≡ n → q ≡ sets l (2 * k) (coords ps) → (got n t ≡ counted r) × StoredBy r l k q
 post-read r ps n t l k q e c g = (rw (e, c), subst (λ (z : Parse (List Point)). StoredBy z l k q) (sym e) g)
+
+pub post-same : (r r' : Parse (List Point)) (n : Parse ℕ) (U : Type 0) (l : List Float) (k : ℕ) (q : List Float) → r ≡ r' → (n ≡ counted r) × (U × StoredBy r l k q) → (n ≡ counted r') × (U × StoredBy r' l k q)
+post-same r r' n U l k q e h = (h .0 ∙ ap counted e, (h .1 .0, subst (λ (z : Parse (List Point)). StoredBy z l k q) e (h .1 .1)))

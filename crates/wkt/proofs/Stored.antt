@@ -4,9 +4,9 @@ use mathlib.Core.Path.{_≡_, refl, sym, ap, _∙_}
 use mathlib.Core.Bool.{Bool, true, false, cond, and-eq-true-iff}
 use mathlib.Core.Logic.{⊎-elim}
 use mathlib.Core.List.{List, [], _∷_, _++_, append-assoc, append-nil}
-use Prim.Native.Nat.{ℕ, suc, _+_, _-_, _*_, _≤_, _<_}
+use Prim.Native.Nat.{ℕ, zero, suc, _+_, _-_, _*_, _≤_, _<_}
 use native.Mathlib.Omega.{arith}
-use lib.ListN.{length, take, drop, set, replicate, length-append, length-take, drop-of-length-le}
+use lib.ListN.{length, getD, take, drop, set, replicate, length-append, length-take, drop-of-length-le}
 use lib.Seq.{sets, length-sets, take-all, take-append-seam}
 use lib.Dec.{leb}
 use borrow.Author.Tests.{leb-true}
@@ -40,6 +40,11 @@ length-allCoords (ps ∷ rs) = omega (arith, length-append (coords ps) (allCoord
 pub length-lengths : (rs : List (List Point)) → length (lengths rs) ≡ length rs
 length-lengths [] = refl
 length-lengths (ps ∷ rs) = ap suc (length-lengths rs)
+
+pub lengths-at : (rs : List (List Point)) (k : ℕ) → getD (lengths rs) k 0 ≡ length (getD rs k [])
+lengths-at [] k = refl
+lengths-at (ps ∷ rs) zero = refl
+lengths-at (ps ∷ rs) (suc k) = lengths-at rs k
 
 -- the points are as many as the lengths say
 pub total-sum : (rs : List (List Point)) → total rs ≡ sumOver (λ n. n) (lengths rs)

@@ -9,8 +9,9 @@ use borrow.Author.Tests.{le-leb, lt-leb}
 use lib.Ieee.{Float}
 use Rattle.wkt.specs.Limits.{maxBytes}
 use Rattle.wkt.specs.Words.{postWord, postEnd}
-use Rattle.wkt.specs.Parse.{Parse, got, wrong, andThen, starts, begins, onlyIf}
+use Rattle.wkt.specs.Parse.{Parse, got, wrong, andThen, spells, begins, onlyIf}
 use Rattle.wkt.specs.Number.{number}
+use Rattle.wkt.specs.Rules.{Rules}
 use Rattle.wkt.specs.Grammar.{Point, point, pair, Post, post, measured, measure, ranged, postLine, posted, Text, scene, textOf}
 use Rattle.wkt.specs.Answer.{total, inputOf}
 use Rattle.wkt.specs.Cursor.{tally, tallied, linesSeen, StoredAll, StoredText, answerOf}
@@ -19,40 +20,40 @@ use Rattle.wkt.specs.declared.Lines.the-variants as I
 use Rattle.wkt.specs.declared.Input.the-variants as U
 use Rattle.wkt.proofs.Prefix.{not-wrong, not-got, same-got}
 
-module _ (w f : ℕ) (t : List ℕ) where
-  pub measure-none : starts 32 t ≡ false → wrong ≡ measure w f t
+module _ (how : Rules) (t : List ℕ) where
+  pub measure-none : spells (how .letter) 32 t ≡ false → wrong ≡ measure how t
   unfolding measure
   measure-none p = rw p
 
-  pub measure-bad : starts 32 t ≡ true → number w f (drop 1 t) ≡ wrong → wrong ≡ measure w f t
+  pub measure-bad : spells (how .letter) 32 t ≡ true → number (how .whole) (how .part) (drop 1 t) ≡ wrong → wrong ≡ measure how t
   unfolding measure
   measure-bad p q = rw (p, q)
 
-  pub measure-end : (b : Bool) (m : Float) (u : List ℕ) → starts 32 t ≡ true → number w f (drop 1 t) ≡ got m u → begins postEnd u ≡ b → onlyIf b (λ c. got m c) (drop (length postEnd) u) ≡ measure w f t
+  pub measure-end : (b : Bool) (m : Float) (u : List ℕ) → spells (how .letter) 32 t ≡ true → number (how .whole) (how .part) (drop 1 t) ≡ got m u → begins (how .letter) postEnd u ≡ b → onlyIf b (λ c. got m c) (drop (length postEnd) u) ≡ measure how t
   unfolding measure
   measure-end b m u p q e =
-      sym (ap (λ (z : Bool). onlyIf (z && true) (λ a. andThen (number w f a) measured) (drop 1 t)) p
-      ∙ ap (λ (z : Parse Float). andThen z measured) q
+      sym (ap (λ (z : Bool). onlyIf (z && true) (λ a. andThen (number (how .whole) (how .part) a) (measured how)) (drop 1 t)) p
+      ∙ ap (λ (z : Parse Float). andThen z (measured how)) q
       ∙ ap (λ (z : Bool). onlyIf z (λ c. got m c) (drop (length postEnd) u)) e)
 
-  pub post-none : begins postWord t ≡ false → wrong ≡ postLine w f t
+  pub post-none : begins (how .letter) postWord t ≡ false → wrong ≡ postLine how t
   unfolding postLine
-  post-none p = sym (ap (λ (z : Bool). onlyIf z (λ a. andThen (pair w f a) (ranged w f)) (drop (length postWord) t)) p)
+  post-none p = sym (ap (λ (z : Bool). onlyIf z (λ a. andThen (pair how a) (ranged how)) (drop (length postWord) t)) p)
 
-  pub post-by : (r : Parse Point) → begins postWord t ≡ true → pair w f (drop (length postWord) t) ≡ r → andThen r (ranged w f) ≡ postLine w f t
+  pub post-by : (r : Parse Point) → begins (how .letter) postWord t ≡ true → pair how (drop (length postWord) t) ≡ r → andThen r (ranged how) ≡ postLine how t
   unfolding postLine
-  post-by r p q = sym (ap (λ (z : Bool). onlyIf z (λ a. andThen (pair w f a) (ranged w f)) (drop (length postWord) t)) p ∙ ap (λ (z : Parse Point). andThen z (ranged w f)) q)
+  post-by r p q = sym (ap (λ (z : Bool). onlyIf z (λ a. andThen (pair how a) (ranged how)) (drop (length postWord) t)) p ∙ ap (λ (z : Parse Point). andThen z (ranged how)) q)
 
-  pub post-end : (x y : Float) (u : List ℕ) (r : Parse Float) → begins postWord t ≡ true → pair w f (drop (length postWord) t) ≡ got (point x y) u → measure w f u ≡ r → andThen r (λ m c. got (post x y m) c) ≡ postLine w f t
+  pub post-end : (x y : Float) (u : List ℕ) (r : Parse Float) → begins (how .letter) postWord t ≡ true → pair how (drop (length postWord) t) ≡ got (point x y) u → measure how u ≡ r → andThen r (λ m c. got (post x y m) c) ≡ postLine how t
   post-end x y u r p q e = ap (λ (z : Parse Float). andThen z (λ m c. got (post x y m) c)) (sym e) ∙ post-by (got (point x y) u) p q
 
-  pub text-long : maxBytes < length t → textOf w f t ≡ wrong
+  pub text-long : maxBytes < length t → textOf how t ≡ wrong
   unfolding textOf
-  text-long h = ap (λ (z : Bool). onlyIf z (λ a. andThen (postLine w f a) (posted w f)) t) (lt-leb (length t) maxBytes h)
+  text-long h = ap (λ (z : Bool). onlyIf z (λ a. andThen (postLine how a) (posted how)) t) (lt-leb (length t) maxBytes h)
 
-  pub text-by : (r : Parse Post) → length t ≤ maxBytes → postLine w f t ≡ r → textOf w f t ≡ andThen r (posted w f)
+  pub text-by : (r : Parse Post) → length t ≤ maxBytes → postLine how t ≡ r → textOf how t ≡ andThen r (posted how)
   unfolding textOf
-  text-by r h e = ap (λ (z : Bool). onlyIf z (λ a. andThen (postLine w f a) (posted w f)) t) (le-leb (length t) maxBytes h) ∙ ap (λ (z : Parse Post). andThen z (posted w f)) e
+  text-by r h e = ap (λ (z : Bool). onlyIf z (λ a. andThen (postLine how a) (posted how)) t) (le-leb (length t) maxBytes h) ∙ ap (λ (z : Parse Post). andThen z (posted how)) e
 
 -- ---- the answers
 pub say-nine : (P : Parse Text) (a : List Float) (b : List ℕ) (c : List Float) (d : List ℕ) → P ≡ wrong → (U.Refused 9 ≡ inputOf P) × StoredText P a b c d

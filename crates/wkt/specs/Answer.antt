@@ -12,6 +12,7 @@ use Rattle.num.specs.Ops.{zeroF}
 use Rattle.lists.specs.Parts.{padded}
 use Rattle.wkt.specs.Limits.{wholeDigits, partDigits, maxPolygons, maxPoints}
 use Rattle.wkt.specs.Parse.{Parse, got, wrong}
+use Rattle.wkt.specs.Rules.{rules}
 use Rattle.wkt.specs.Grammar.{Point, point, Text, scene, post, textOf}
 use Rattle.wkt.specs.declared.Input.{Input}
 use Rattle.wkt.specs.declared.Input.the-variants.{Read, Refused}
@@ -54,7 +55,7 @@ held z n xs = padded z n (take n xs)
 
 -- ---- the promise of `read_input` for the text t: the answer r, and the lent slices, with the lengths p and l, at the end
 abbrev pub textIn : List ℕ → Parse Text
-textIn t = textOf wholeDigits partDigits t
+textIn t = textOf (rules wholeDigits partDigits) t
 
 pub record Says (t : List ℕ) (p l : ℕ) (r : Input) (pts : List Float) (lens : List ℕ) : Type 0 where
   pub answer : r ≡ inputOf (textIn t)

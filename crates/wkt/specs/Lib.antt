@@ -2,6 +2,7 @@
 pub mod Limits
 pub mod Words
 pub mod Parse
+pub mod Rules
 pub mod Number
 pub mod Numeral
 pub mod Nearest

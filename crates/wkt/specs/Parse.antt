@@ -19,23 +19,27 @@ andThen wrong f = wrong
 abbrev pub join : {A : Type 0} → A → Parse (List A) → Parse (List A)
 join a r = andThen r (λ l t. got (a ∷ l) t)
 
--- whether the text starts with the byte b
-abbrev pub starts : ℕ → List ℕ → Bool
-starts b [] = false
-starts b (x ∷ t) = eqb x b
+-- whether the text starts with a byte that counts as b: g says what a byte counts as
+abbrev pub spells : (ℕ → ℕ) → ℕ → List ℕ → Bool
+spells g b [] = false
+spells g b (x ∷ t) = eqb (g x) b
 
--- whether the text starts with all of these bytes
-abbrev pub begins : List ℕ → List ℕ → Bool
-begins [] t = true
-begins (w ∷ ws) t = starts w t && begins ws (drop 1 t)
+-- whether the text starts with the byte b itself
+abbrev pub starts : ℕ → List ℕ → Bool
+starts b t = spells (λ x. x) b t
+
+-- whether the text starts with all bytes of a word
+abbrev pub begins : (ℕ → ℕ) → List ℕ → List ℕ → Bool
+begins g [] t = true
+begins g (b ∷ v) t = spells g b t && begins g v (drop 1 t)
 
 abbrev pub onlyIf : {A : Type 0} → Bool → (List ℕ → Parse A) → List ℕ → Parse A
 onlyIf true k t = k t
 onlyIf false k t = wrong
 
--- the text goes on with these bytes, and k reads what follows them
-abbrev pub word : {A : Type 0} → List ℕ → List ℕ → (List ℕ → Parse A) → Parse A
-word w t k = onlyIf (begins w t) k (drop (length w) t)
+-- the text goes on with this word, and k reads what follows it
+abbrev pub word : {A : Type 0} → (ℕ → ℕ) → List ℕ → List ℕ → (List ℕ → Parse A) → Parse A
+word g v t k = onlyIf (begins g v t) k (drop (length v) t)
 
 -- ---- decimal digits: 0 is 48 and 9 is 57
 abbrev pub isDigit : ℕ → Bool

@@ -1,12 +1,13 @@
--- Worked texts: document 01's sample line, a ring closed by -0.000, one that is open, numbers that are and are not taken.
+-- Worked texts: document 01's sample line, letters in either case and EMPTY, a ring closed by -0.000, one that is open, numbers that are and are not taken.
 -- Assumes nothing.
 use mathlib.Core.Path.{_≡_, refl}
-use mathlib.Core.List.{[], _∷_}
+use mathlib.Core.List.{[], _∷_, _++_}
 use lib.Ieee.{Float, ofBits, binary64, round, eq}
 use Rattle.wkt.specs.Words.{bytes}
 use Rattle.wkt.specs.Parse.{got, wrong}
+use Rattle.wkt.specs.Rules.{rules, former}
 use Rattle.wkt.specs.Number.{number, unsigned, digitsOf, nearestTo}
-use Rattle.wkt.specs.Grammar.{point, scene, post, measure, postLine, pair, points, ring, polygon, polygons, textOf}
+use Rattle.wkt.specs.Grammar.{point, scene, post, measure, postLine, pair, points, ring, ringLine, polygon, polygons, textOf}
 use Rattle.wkt.specs.Answer.{textIn}
 
 abbrev zero : Float
@@ -19,32 +20,52 @@ abbrev tenth : Float
 tenth = ofBits binary64 0x3fb9_9999_9999_999a
 
 sample : textIn (bytes "POINT M (0 0 0.1)\n") ≡ got (scene (post zero zero tenth) []) []
-unfolding number unsigned digitsOf nearestTo measure postLine pair points ring polygon polygons textOf ofBits round
+unfolding number unsigned digitsOf nearestTo measure postLine pair points ring ringLine polygon polygons textOf ofBits round
 sample = refl
 
--- no text, no end of the line, two spaces, EMPTY
+-- no text, no end of the line, two spaces, a post that is EMPTY
 nothing : textIn [] ≡ wrong
-unfolding number unsigned digitsOf nearestTo measure postLine pair points ring polygon polygons textOf ofBits round
+unfolding number unsigned digitsOf nearestTo measure postLine pair points ring ringLine polygon polygons textOf ofBits round
 nothing = refl
 
 endless : textIn (bytes "POINT M (0 0 0.1)") ≡ wrong
-unfolding number unsigned digitsOf nearestTo measure postLine pair points ring polygon polygons textOf ofBits round
+unfolding number unsigned digitsOf nearestTo measure postLine pair points ring ringLine polygon polygons textOf ofBits round
 endless = refl
 
 wide : textIn (bytes "POINT M (0  0 0.1)\n") ≡ wrong
-unfolding number unsigned digitsOf nearestTo measure postLine pair points ring polygon polygons textOf ofBits round
+unfolding number unsigned digitsOf nearestTo measure postLine pair points ring ringLine polygon polygons textOf ofBits round
 wide = refl
 
 empty : textIn (bytes "POINT M EMPTY\n") ≡ wrong
-unfolding number unsigned digitsOf nearestTo measure postLine pair points ring polygon polygons textOf ofBits round
+unfolding number unsigned digitsOf nearestTo measure postLine pair points ring ringLine polygon polygons textOf ofBits round
 empty = refl
 
-square : polygon 7 3 (bytes "POLYGON ((0 0, 1 0, 1 1, -0.000 0))\n") ≡ got (point zero zero ∷ point one zero ∷ point one one ∷ []) []
-unfolding number unsigned digitsOf nearestTo pair points ring polygon ofBits round eq
+-- letters in either case, and a polygon without points
+pub mixed : textIn (bytes "Point m (0 0 0.1)\nPolygon Empty\nPOLYGON EMPTY\n") ≡ got (scene (post zero zero tenth) ([] ∷ [] ∷ [])) []
+unfolding number unsigned digitsOf nearestTo measure postLine pair points ring ringLine polygon polygons textOf ofBits round
+mixed = refl
+
+-- neither of which document 01's rules take
+pub was : textOf (former 7 3) (bytes "Point M (0 0 0.1)\n") ∷ textOf (former 7 3) (bytes "POINT M (0 0 0.1)\nPOLYGON EMPTY\n") ∷ [] ≡ wrong ∷ wrong ∷ []
+unfolding number unsigned digitsOf nearestTo measure postLine pair points ring ringLine polygon polygons textOf ofBits round
+was = refl
+
+-- a space too many, before EMPTY or behind it, EMPTY in brackets, no end of the line
+pub spaced : polygon (rules 7 3) (bytes "POLYGON  EMPTY\n") ∷ polygon (rules 7 3) (bytes "POLYGON EMPTY \n") ∷ polygon (rules 7 3) (bytes "POLYGON (EMPTY)\n") ∷ polygon (rules 7 3) (bytes "POLYGON EMPTY") ∷ [] ≡ wrong ∷ wrong ∷ wrong ∷ wrong ∷ []
+unfolding number unsigned digitsOf nearestTo pair points ring ringLine polygon ofBits round eq
+spaced = refl
+
+-- bytes that are one bit off: NUL for the space, H for a bracket, P with its highest bit
+pub bit-off : polygon (rules 7 3) (bytes "POLYGON" ++ (0 ∷ bytes "EMPTY\n")) ∷ polygon (rules 7 3) (bytes "POLYGON HH0 0, 1 0, 1 1, 0 0))\n") ∷ polygon (rules 7 3) (208 ∷ bytes "OLYGON EMPTY\n") ∷ [] ≡ wrong ∷ wrong ∷ wrong ∷ []
+unfolding number unsigned digitsOf nearestTo pair points ring ringLine polygon ofBits round eq
+bit-off = refl
+
+square : polygon (rules 7 3) (bytes "POLYGON ((0 0, 1 0, 1 1, -0.000 0))\n") ≡ got (point zero zero ∷ point one zero ∷ point one one ∷ []) []
+unfolding number unsigned digitsOf nearestTo pair points ring ringLine polygon ofBits round eq
 square = refl
 
-apart : polygon 7 3 (bytes "POLYGON ((0 0, 1 0, 1 1, 0.001 0))\n") ≡ wrong
-unfolding number unsigned digitsOf nearestTo pair points ring polygon ofBits round eq
+apart : polygon (rules 7 3) (bytes "POLYGON ((0 0, 1 0, 1 1, 0.001 0))\n") ≡ wrong
+unfolding number unsigned digitsOf nearestTo pair points ring ringLine polygon ofBits round eq
 apart = refl
 
 -- -12.5; -0 is plus zero; a plus sign, no digit after the point, none before it, eight digits, four decimals

@@ -46,9 +46,10 @@ ringWord = bytes "POLYGON (("
 abbrev pub ringEnd : List ℕ
 ringEnd = bytes "))\n"
 
--- printed only: no points, and a refusal
+-- a polygon that has no points
 abbrev pub emptyLine : List ℕ
 emptyLine = bytes "POLYGON EMPTY\n"
 
+-- printed only: a refusal
 abbrev pub refusedWord : List ℕ
 refusedWord = bytes "REFUSED "

@@ -1,6 +1,7 @@
-// Reading the text program's input: a post and polygons in Well-Known Text (document 01, "The text program"; OGC 06-103r4).
-// What a text means stands in specs/Grammar.antt, on lists and without a cursor; here a cursor runs over the bytes once, each
-// point is stored where there is room for it, and all are counted. `read_input` is the one call from outside; printing uses `ten_to` too.
+// Reading the text program's input: a post and polygons in Well-Known Text (document 01, "The text program"; document 02, Q-2; OGC 06-103r4).
+// What a text means stands in specs/Grammar.antt, under the rules of specs/Rules.antt, on lists and without a cursor; here a cursor runs over
+// the bytes once, each point is stored where there is room for it, and all are counted. `read_input` is the one call from outside; printing
+// uses `ten_to` too.
 ghost use mathlib.Core.Path.{_≡_};
 ghost use mathlib.Core.Bool.{_&&_};
 ghost use mathlib.Core.List.{[], _∷_};
@@ -10,9 +11,10 @@ ghost use lib.ListN.{length, drop};
 ghost use lib.Seq.{sets};
 ghost use Rattle.wkt.specs.Limits.{leastRing};
 ghost use Rattle.wkt.specs.Words.{comma};
-ghost use Rattle.wkt.specs.Parse.{starts, begins, word};
+ghost use Rattle.wkt.specs.Parse.{starts, spells, begins, word};
+ghost use Rattle.wkt.specs.Rules.{capitalOf, rules};
 ghost use Rattle.wkt.specs.Number.{digitsOf, number, unsigned, decimal};
-ghost use Rattle.wkt.specs.Grammar.{pair, ring, polygon, polygons, measure, postLine, textOf, same, point};
+ghost use Rattle.wkt.specs.Grammar.{pair, ring, ringLine, polygon, polygons, measure, postLine, textOf, same, point};
 ghost use Rattle.wkt.specs.Answer.{inputOf, Says};
 ghost use Rattle.wkt.specs.Cursor.{headDigit, runSeen, runOn, numberSeen, numberOn, pairSeen, pairOn, ringSeen, ringOn, counted, StoredBy, lineOn, linesSeen, tallied, StoredAll, postSeen, postOn, StoredText, answerOf, polygonsIn, pointsIn};
 
@@ -90,14 +92,36 @@ fn is_at(s: &[u8], at: usize, b: u8) -> bool
     false
 }
 
-// Whether the word stands at the cursor.
+// A small letter as its capital; any other byte as it is. Not by a bit, which would change other bytes too.
+fn capital(b: u8) -> u8
+    ensures { λ r. ⌜ r ≡ capitalOf b ⌝ }
+{
+    if b'a' <= b {
+        if b <= b'z' {
+            return b - 32;
+        }
+    }
+    b
+}
+
+// Whether the byte b, which is no small letter, stands at the cursor, or the small letter of the capital b.
+fn spells_at(s: &[u8], at: usize, b: u8) -> bool
+    ensures { λ r. ⌜ r ≡ spells capitalOf b (drop at (now (s .entry))) ⌝ }
+{
+    if at < s.len() {
+        return capital(s[at]) == b;
+    }
+    false
+}
+
+// Whether the word stands at the cursor, in capitals or not.
 fn begins_at(s: &[u8], at: usize, word: &[u8]) -> bool
     requires { ⌜ at ≤ length (now s) ⌝ }
-    ensures { λ r. ⌜ r ≡ begins (now (word .entry)) (drop at (now (s .entry))) ⌝ }
+    ensures { λ r. ⌜ r ≡ begins capitalOf (now (word .entry)) (drop at (now (s .entry))) ⌝ }
 {
     let mut i = 0;
     while i < word.len() {
-        if is_at(s, at + i, word[i]) {
+        if spells_at(s, at + i, word[i]) {
             i += 1;
         } else {
             return false;
@@ -210,12 +234,12 @@ fn read_number(s: &[u8], at: usize, whole: usize, part: usize) -> Number
 // x y
 fn read_pair(s: &[u8], at: usize, whole: usize, part: usize) -> Pair
     requires { ⌜ whole + part ≤ 15 ⌝ }
-    ensures seen { λ r. ⌜ pairSeen (now (s .entry)) r ≡ pair whole part (drop at (now (s .entry))) ⌝ }
+    ensures seen { λ r. ⌜ pairSeen (now (s .entry)) r ≡ pair (rules whole part) (drop at (now (s .entry))) ⌝ }
     ensures on { λ r. ⌜ pairOn (now (s .entry)) at r ⌝ }
 {
     match read_number(s, at, whole, part) {
         Number::Read(x, i) => {
-            if is_at(s, i, b' ') {
+            if spells_at(s, i, b' ') {
                 match read_number(s, i + 1, whole, part) {
                     Number::Read(y, j) => Pair::Read(x, y, j),
                     Number::Wrong => Pair::Wrong,
@@ -231,7 +255,7 @@ fn read_pair(s: &[u8], at: usize, whole: usize, part: usize) -> Pair
 // A comma, a space and x y.
 fn comma_pair(s: &[u8], at: usize, whole: usize, part: usize) -> Pair
     requires { ⌜ (whole + part ≤ 15) × (at ≤ length (now s)) × (length (now s) < 4294967296) ⌝ }
-    ensures seen { λ r. ⌜ pairSeen (now (s .entry)) r ≡ word comma (drop at (now (s .entry))) (pair whole part) ⌝ }
+    ensures seen { λ r. ⌜ pairSeen (now (s .entry)) r ≡ word capitalOf comma (drop at (now (s .entry))) (pair (rules whole part)) ⌝ }
     ensures on { λ r. ⌜ pairOn (now (s .entry)) at r ⌝ }
 {
     if begins_at(s, at, b", ") {
@@ -265,9 +289,9 @@ fn closes(n: usize, x: f64, y: f64, x0: f64, y0: f64) -> bool
 // x y, x y, .., closed: the points but the closing one are stored from the k-th on.
 fn read_ring(s: &[u8], at: usize, whole: usize, part: usize, pts: &mut [f64], k: usize) -> Ring
     requires { ⌜ (whole + part ≤ 15) × (at ≤ length (now s)) × (length (now s) < 4294967296) × (k ≤ at) ⌝ }
-    ensures seen { λ r. ⌜ ringSeen (now (s .entry)) r ≡ counted (ring whole part (drop at (now (s .entry)))) ⌝ }
+    ensures seen { λ r. ⌜ ringSeen (now (s .entry)) r ≡ counted (ring (rules whole part) (drop at (now (s .entry)))) ⌝ }
     ensures on { λ r. ⌜ ringOn (now (s .entry)) at r ⌝ }
-    ensures stored { λ r. ⌜ StoredBy (ring whole part (drop at (now (s .entry)))) (now (pts .entry)) k (now (pts .exit)) ⌝ }
+    ensures stored { λ r. ⌜ StoredBy (ring (rules whole part) (drop at (now (s .entry)))) (now (pts .entry)) k (now (pts .exit)) ⌝ }
 {
     match read_pair(s, at, whole, part) {
         Pair::Read(x0, y0, i0) => {
@@ -297,11 +321,11 @@ fn read_ring(s: &[u8], at: usize, whole: usize, part: usize, pts: &mut [f64], k:
 }
 
 // POLYGON ((x y, x y, ..)) and the end of the line.
-fn read_polygon(s: &[u8], at: usize, whole: usize, part: usize, pts: &mut [f64], k: usize) -> Ring
+fn read_ring_line(s: &[u8], at: usize, whole: usize, part: usize, pts: &mut [f64], k: usize) -> Ring
     requires { ⌜ (whole + part ≤ 15) × (at ≤ length (now s)) × (length (now s) < 4294967296) × (k ≤ at) ⌝ }
-    ensures seen { λ r. ⌜ ringSeen (now (s .entry)) r ≡ counted (polygon whole part (drop at (now (s .entry)))) ⌝ }
+    ensures seen { λ r. ⌜ ringSeen (now (s .entry)) r ≡ counted (ringLine (rules whole part) (drop at (now (s .entry)))) ⌝ }
     ensures on { λ r. ⌜ lineOn (now (s .entry)) at r ⌝ }
-    ensures stored { λ r. ⌜ StoredBy (polygon whole part (drop at (now (s .entry)))) (now (pts .entry)) k (now (pts .exit)) ⌝ }
+    ensures stored { λ r. ⌜ StoredBy (ringLine (rules whole part) (drop at (now (s .entry)))) (now (pts .entry)) k (now (pts .exit)) ⌝ }
 {
     if begins_at(s, at, b"POLYGON ((") {
         match read_ring(s, at + 10, whole, part, pts, k) {
@@ -318,6 +342,19 @@ fn read_polygon(s: &[u8], at: usize, whole: usize, part: usize, pts: &mut [f64],
     }
 }
 
+// POLYGON EMPTY, which has no points, or a ring's line.
+fn read_polygon(s: &[u8], at: usize, whole: usize, part: usize, pts: &mut [f64], k: usize) -> Ring
+    requires { ⌜ (whole + part ≤ 15) × (at ≤ length (now s)) × (length (now s) < 4294967296) × (k ≤ at) ⌝ }
+    ensures seen { λ r. ⌜ ringSeen (now (s .entry)) r ≡ counted (polygon (rules whole part) (drop at (now (s .entry)))) ⌝ }
+    ensures on { λ r. ⌜ lineOn (now (s .entry)) at r ⌝ }
+    ensures stored { λ r. ⌜ StoredBy (polygon (rules whole part) (drop at (now (s .entry)))) (now (pts .entry)) k (now (pts .exit)) ⌝ }
+{
+    if begins_at(s, at, b"POLYGON EMPTY\n") {
+        return Ring::Read(0, at + 14);
+    }
+    read_ring_line(s, at, whole, part, pts, k)
+}
+
 // The lines of polygons from the cursor to the end of the text.
 fn read_polygons(
     s: &[u8],
@@ -328,8 +365,8 @@ fn read_polygons(
     lens: &mut [u32],
 ) -> Lines
     requires { ⌜ (whole + part ≤ 15) × (at ≤ length (now s)) × (length (now s) < 4294967296) ⌝ }
-    ensures seen { λ r. ⌜ linesSeen r ≡ tallied (polygons whole part (length (drop at (now (s .entry)))) (drop at (now (s .entry)))) ⌝ }
-    ensures stored { λ r. ⌜ StoredAll (polygons whole part (length (drop at (now (s .entry)))) (drop at (now (s .entry)))) (now (pts .entry)) (now (lens .entry)) (now (pts .exit)) (now (lens .exit)) ⌝ }
+    ensures seen { λ r. ⌜ linesSeen r ≡ tallied (polygons (rules whole part) (length (drop at (now (s .entry)))) (drop at (now (s .entry)))) ⌝ }
+    ensures stored { λ r. ⌜ StoredAll (polygons (rules whole part) (length (drop at (now (s .entry)))) (drop at (now (s .entry)))) (now (pts .entry)) (now (lens .entry)) (now (pts .exit)) (now (lens .exit)) ⌝ }
 {
     let mut i = at;
     let mut m: usize = 0;
@@ -351,10 +388,10 @@ fn read_polygons(
 // A space, the range m and the end of the post's line.
 fn read_measure(s: &[u8], at: usize, whole: usize, part: usize) -> Number
     requires { ⌜ (whole + part ≤ 15) × (length (now s) < 4294967296) ⌝ }
-    ensures seen { λ r. ⌜ numberSeen (now (s .entry)) r ≡ measure whole part (drop at (now (s .entry))) ⌝ }
+    ensures seen { λ r. ⌜ numberSeen (now (s .entry)) r ≡ measure (rules whole part) (drop at (now (s .entry))) ⌝ }
     ensures on { λ r. ⌜ numberOn (now (s .entry)) at r ⌝ }
 {
-    if is_at(s, at, b' ') {
+    if spells_at(s, at, b' ') {
         match read_number(s, at + 1, whole, part) {
             Number::Read(m, i) => {
                 if begins_at(s, i, b")\n") {
@@ -372,7 +409,7 @@ fn read_measure(s: &[u8], at: usize, whole: usize, part: usize) -> Number
 // POINT M (x y m) and the end of the line.
 fn read_post(s: &[u8], whole: usize, part: usize) -> Post
     requires { ⌜ (whole + part ≤ 15) × (length (now s) < 4294967296) ⌝ }
-    ensures seen { λ r. ⌜ postSeen (now (s .entry)) r ≡ postLine whole part (now (s .entry)) ⌝ }
+    ensures seen { λ r. ⌜ postSeen (now (s .entry)) r ≡ postLine (rules whole part) (now (s .entry)) ⌝ }
     ensures on { λ r. ⌜ postOn (now (s .entry)) r ⌝ }
 {
     if begins_at(s, 0, b"POINT M (") {
@@ -414,8 +451,8 @@ fn answer(x: f64, y: f64, range: f64, lines: Lines) -> Input
 // The whole text. What is refused may have stored something.
 fn read_text(s: &[u8], whole: usize, part: usize, pts: &mut [f64], lens: &mut [u32]) -> Input
     requires { ⌜ whole + part ≤ 15 ⌝ }
-    ensures read { λ r. ⌜ r ≡ inputOf (textOf whole part (now (s .entry))) ⌝ }
-    ensures stored { λ r. ⌜ StoredText (textOf whole part (now (s .entry))) (now (pts .entry)) (now (lens .entry)) (now (pts .exit)) (now (lens .exit)) ⌝ }
+    ensures read { λ r. ⌜ r ≡ inputOf (textOf (rules whole part) (now (s .entry))) ⌝ }
+    ensures stored { λ r. ⌜ StoredText (textOf (rules whole part) (now (s .entry))) (now (pts .entry)) (now (lens .entry)) (now (pts .exit)) (now (lens .exit)) ⌝ }
 {
     if s.len() <= MAX_BYTES {
         match read_post(s, whole, part) {

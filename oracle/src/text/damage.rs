@@ -2,6 +2,7 @@
 
 use super::inputs::{self, Text};
 use super::reader::MOST_BYTES;
+use super::survey::{self, EMPTY};
 use crate::util::rng::SplitMix64;
 use std::ops::Range;
 
@@ -13,7 +14,7 @@ pub struct Kind {
     pub harm: Harm,
 }
 
-const KINDS: [(&str, Harm); 21] = [
+const KINDS: [(&str, Harm); 23] = [
     ("a byte changed", byte_changed),
     ("a byte changed to one of the layout", byte_in_layout),
     ("a byte deleted", byte_deleted),
@@ -23,8 +24,13 @@ const KINDS: [(&str, Harm); 21] = [
     ("a stretch deleted or doubled", stretch),
     ("a line doubled, deleted or swapped", lines_moved),
     ("CR, tab, NUL or a high byte", foreign),
-    ("lower case", lower_case),
-    ("EMPTY", empty),
+    ("a letter or word in another case", other_case),
+    ("a byte 32 away, or with another high bit", step_of_32),
+    (
+        "a letter's neighbour, or a letter that is not ASCII",
+        no_letter,
+    ),
+    ("EMPTY, as laid out or not", empty),
     ("a number of many digits", many_digits),
     ("a number written oddly", odd_number),
     ("the last LF missing, or one too many", last_end),
@@ -59,14 +65,20 @@ pub fn kinds() -> Vec<Kind> {
     all
 }
 
-/// Texts to be damaged, most of them small: one damage is to matter.
+/// Texts to be damaged, most of them small: one damage is to matter. Every other one is as a survey office
+/// writes it, unless that is long.
 pub fn pool(r: &mut SplitMix64) -> Vec<Text> {
     let groups = inputs::groups();
     let mut all = Vec::new();
     while all.len() < 600 {
         let group = &groups[r.below(inputs::OF_SITES as u64) as usize];
         let text = (group.make)(r);
-        if text.len() < 700 {
+        if text.len() >= 700 {
+            continue;
+        }
+        all.push(text);
+        let (_, text) = survey::written(r, &all[all.len() - 1]);
+        if text.len() < 700 + 66 * EMPTY.len() {
             all.push(text);
         }
     }
@@ -75,7 +87,7 @@ pub fn pool(r: &mut SplitMix64) -> Vec<Text> {
 
 // ---- places
 
-const LAYOUT: &[u8] = b"POINT M POLYGON (()), ,..--0123456789\n";
+const LAYOUT: &[u8] = b"POINT M POLYGON EMPTY pointmlyge (()), ,..--01234567890123456789\n";
 
 /// A place in the text, or behind it.
 fn at(r: &mut SplitMix64, text: &Text) -> usize {
@@ -85,6 +97,11 @@ fn at(r: &mut SplitMix64, text: &Text) -> usize {
 /// One of the places where such a byte stands.
 fn at_one_of(r: &mut SplitMix64, text: &Text, bytes: &[u8]) -> Option<usize> {
     let places = (0..text.len()).filter(|&i| bytes.contains(&text[i]));
+    one_of(r, places.collect())
+}
+
+fn a_letter(r: &mut SplitMix64, text: &Text) -> Option<usize> {
+    let places = (0..text.len()).filter(|&i| text[i].is_ascii_alphabetic());
     one_of(r, places.collect())
 }
 
@@ -118,7 +135,8 @@ fn a_ring(r: &mut SplitMix64, text: &Text) -> Option<Range<usize>> {
     let mut begin = 0;
     for line in lines(text) {
         let end = begin + line.len();
-        if line.starts_with(b"POLYGON ((") && line.ends_with(b"))\n") {
+        let capitals = line.to_ascii_uppercase();
+        if capitals.starts_with(b"POLYGON ((") && line.ends_with(b"))\n") {
             rings.push(begin + 10..end - 3);
         }
         begin = end;
@@ -202,33 +220,95 @@ fn foreign(r: &mut SplitMix64, text: &mut Text) {
     }
 }
 
-fn lower_case(r: &mut SplitMix64, text: &mut Text) {
-    let letters = b"POINTMLYG";
-    let Some(i) = at_one_of(r, text, letters) else {
+/// A letter's case is the bit of 32.
+fn other_case(r: &mut SplitMix64, text: &mut Text) {
+    let Some(i) = a_letter(r, text) else {
         return;
     };
-    if r.below(2) == 0 {
-        text[i] = text[i].to_ascii_lowercase();
-        return;
+    match r.below(3) {
+        0 => text[i] ^= 32,
+        1 => {
+            let word = text[i..].iter_mut().take_while(|b| b.is_ascii_alphabetic());
+            word.for_each(|b| *b ^= 32);
+        }
+        _ => survey::recased(r, text),
     }
-    let word = text[i..].iter_mut().take_while(|b| b.is_ascii_alphabetic());
-    word.for_each(|b| b.make_ascii_lowercase());
 }
 
+/// A byte that folding by a bit, or by a step of 32, would take for the one that stood there: NUL for a
+/// space, tab for a bracket.
+fn step_of_32(r: &mut SplitMix64, text: &mut Text) {
+    let any = r.below(text.len() as u64) as usize;
+    let at = at_one_of(r, text, b" (),\n").unwrap_or(any);
+    let i = r.pick(&[any, at, at]);
+    let b = text[i];
+    text[i] = r.pick(&[
+        b ^ 32,
+        b.wrapping_add(32),
+        b.wrapping_sub(32),
+        b ^ 128,
+        b ^ 160,
+    ]);
+}
+
+/// In a letter's place or beside it: what stands beside the ASCII letters, what Unicode folds to one of
+/// them (s, k, i), what looks like one (O, M), and a P in two bytes.
+fn no_letter(r: &mut SplitMix64, text: &mut Text) {
+    let dots = ["\u{131}", "\u{130}"].map(str::as_bytes);
+    if let (0, Some(i)) = (r.below(4), at_one_of(r, text, b"Ii")) {
+        return put(text, i..i + 1, r.pick(&dots));
+    }
+    let Some(i) = a_letter(r, text) else {
+        return;
+    };
+    let bytes: [&[u8]; 5] = [b"@", b"[", b"`", b"{", b"\xC1\x90"];
+    let others = ["\u{17F}", "\u{212A}", "\u{FF2F}", "\u{39F}", "\u{41C}"].map(str::as_bytes);
+    let all = [&bytes[..], &dots, &others].concat();
+    let (from, to) = r.pick(&[(i, i), (i, i + 1), (i, i + 1), (i + 1, i + 1)]);
+    put(text, from..to, r.pick(&all));
+}
+
+/// A line with EMPTY put among the others or in the place of one, in any mix of cases.
 fn empty(r: &mut SplitMix64, text: &mut Text) {
-    let words: [&[u8]; 8] = [
-        b"POLYGON EMPTY\n",
-        b"POLYGON EMPTY\n",
+    let posts: [&[u8]; 6] = [
+        b"POINT M EMPTY\n",
+        b"POINT M EMPTY\n",
+        b"POINT EMPTY\n",
+        b"POINT M (EMPTY)\n",
+        b"POINT EMPTY M\n",
+        EMPTY,
+    ];
+    let polygons: [&[u8]; 20] = [
+        b"POLYGON  EMPTY\n",
+        b" POLYGON EMPTY\n",
+        b"POLYGON EMPTY \n",
+        b"POLYGONEMPTY\n",
+        b"POLYGON EMPTY",
+        b"POLYGON EMPTY\r\n",
+        b"POLYGON\tEMPTY\n",
+        b"POLYGON EMPT\n",
+        b"POLYGON EMPTYY\n",
+        b"POLYGON EMPTY EMPTY\n",
+        b"POLYGON EMPTY((0 0, 1 0, 0 1, 0 0))\n",
+        b"POLYGON M EMPTY\n",
         b"POLYGON (EMPTY)\n",
         b"POLYGON ((EMPTY))\n",
         b"POLYGON (())\n",
-        b"POINT M EMPTY\n",
-        b"POINT EMPTY\n",
+        b"POLYGON ()\n",
+        b"POLYGON \n",
+        b"POLYGON\n",
         b"EMPTY\n",
+        b"POINT M EMPTY\n",
     ];
     let mut all = lines(text);
-    let i = r.below(all.len() as u64 + 1) as usize;
-    let line = r.pick(&words).to_vec();
+    let n = all.len() as u64;
+    let (i, line) = match r.below(6) {
+        0 => (0, r.pick(&posts)),
+        1 | 2 => (r.below(n + 1) as usize, EMPTY),
+        _ => (r.below(n + 1) as usize, r.pick(&polygons)),
+    };
+    let mut line = line.to_vec();
+    survey::recased(r, &mut line);
     if i < all.len() && r.below(2) == 0 {
         all[i] = line;
     } else {
@@ -373,7 +453,8 @@ fn points(r: &mut SplitMix64, text: &mut Text) {
         b"POINT Z (1 2 3)\n",
         b"POINTM (1 2 3)\n",
     ];
-    let line = r.pick(&other).to_vec();
+    let mut line = r.pick(&other).to_vec();
+    survey::recased(r, &mut line);
     let i = r.below(all.len() as u64 + 1) as usize;
     match r.below(4) {
         0 => all.insert(i, line),
@@ -465,9 +546,9 @@ fn beside(r: &mut SplitMix64, text: &mut Text) {
     byte_in_layout(r, text);
 }
 
-/// A text of a length: the last bytes are zeros in front of numbers.
+/// A text of a length: the last bytes are zeros in front of numbers. Without sides a line is EMPTY.
 fn sized(r: &mut SplitMix64, text: &mut Text, long: usize) {
-    let sides = r.pick(&[3, 3, 5, 30, 500]);
+    let sides = r.pick(&[0, 3, 3, 5, 30, 500]);
     let wide = r.pick(&[1, 3, 7]);
     let number = |r: &mut SplitMix64| format!("{:0>wide$}", r.below(100));
     // A line, and the next, as long as they fit.
@@ -476,17 +557,22 @@ fn sized(r: &mut SplitMix64, text: &mut Text, long: usize) {
         for _ in 0..sides {
             words.push(format!("{} {}", number(r), number(r)));
         }
-        words.push(words[0].clone());
-        let line = format!("POLYGON (({}))\n", words.join(", "));
+        words.extend(words.first().cloned());
+        let line = if words.is_empty() {
+            EMPTY.to_vec()
+        } else {
+            format!("POLYGON (({}))\n", words.join(", ")).into_bytes()
+        };
         if text.len() + line.len() + TRIANGLE.len() > long {
             break;
         }
-        text.extend(line.bytes());
+        text.extend(line);
     }
     lengthen(r, text, long);
+    survey::recased(r, text);
 }
 
-/// The shortest line: its numbers take more zeros than it has bytes.
+/// The shortest line with numbers: these take more zeros than it has bytes.
 const TRIANGLE: &[u8] = b"POLYGON ((0 0, 1 0, 0 1, 0 0))\n";
 
 /// With small triangles as long as they fit, then with zeros in front of numbers.

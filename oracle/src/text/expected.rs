@@ -1,4 +1,4 @@
-//! What document 01 says that a text is answered with, worked out without our code: the reader and the
+//! What documents 01 and 02 say that a text is answered with, worked out without our code: the reader and the
 //! printer beside this file, the order of refusals, the Rust's own tables and the Rust's own outline.
 
 use super::print::{decimal, is_half};

@@ -1,5 +1,6 @@
-//! A text read line by line, straight from the words of document 01, "The text program": split at LF,
-//! at comma and space, and at spaces. It shares nothing with our reader, which runs a cursor over bytes.
+//! A text read line by line, straight from the words of document 01, "The text program", and of document
+//! 02, Q-2: split at LF, at comma and space, and at spaces, with keywords in any mix of cases. It shares
+//! nothing with our reader, which runs a cursor over bytes.
 
 use crate::sites::{Plan, Point, Ring};
 
@@ -22,7 +23,7 @@ pub fn read(text: &[u8]) -> Option<Read> {
     // Every byte of the layout is ASCII.
     let text = std::str::from_utf8(text).ok()?;
     let mut lines = text.strip_suffix('\n')?.split('\n');
-    let inner = lines.next()?.strip_prefix("POINT M (")?.strip_suffix(')')?;
+    let inner = behind(lines.next()?, "POINT M (")?.strip_suffix(')')?;
     let [x, y, range] = numbers(inner)?;
     let rings = lines.map(ring).collect::<Option<_>>()?;
     Some(Read {
@@ -35,9 +36,18 @@ pub fn read(text: &[u8]) -> Option<Read> {
     })
 }
 
-/// A line of a polygon, closed and of at least four points with the closing one.
+/// What stands behind a line's first words, whose ASCII letters may be small; no other byte is folded.
+fn behind<'a>(line: &'a str, words: &str) -> Option<&'a str> {
+    let (first, rest) = line.split_at_checked(words.len())?;
+    first.eq_ignore_ascii_case(words).then_some(rest)
+}
+
+/// A line of a polygon: without points, or closed and of at least four with the closing one.
 fn ring(line: &str) -> Option<Ring> {
-    let inner = line.strip_prefix("POLYGON ((")?.strip_suffix("))")?;
+    if behind(line, "POLYGON EMPTY") == Some("") {
+        return Some(Ring::new());
+    }
+    let inner = behind(line, "POLYGON ((")?.strip_suffix("))")?;
     let point = |p: &str| numbers(p).map(|[x, y]| (x, y));
     let mut ring = inner.split(", ").map(point).collect::<Option<Ring>>()?;
     if ring.len() < 4 {

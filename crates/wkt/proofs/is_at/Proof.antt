@@ -1,7 +1,7 @@
 -- `wkt::is_at` meets its contract. Assumes nothing.
 use Prim.Native.Nat.{_-_}
 use native.Mathlib.Omega.{arith}
-use Rattle.wkt.proofs.Numerals.{starts-in, starts-end}
+use Rattle.wkt.proofs.Numerals.{spells-in, spells-end}
 use borrow.Author.Needs.{needs}
 use Rattle.wkt.proofs.is_at.Statement.{statement}
 use Rattle.wkt.proofs.is_at.Tie as tie
@@ -10,10 +10,10 @@ shared-slice-read-result : tie.Need-shared-slice-read-result
 shared-slice-read-result c = search needs
 
 returns : tie.Need-returns
-returns c = starts-in (c .before .before .args .s .now) (c .before .before .args .at) _ (omega arith)
+returns c = spells-in (λ x. x) (c .before .before .args .s .now) (c .before .before .args .at) _ (omega arith)
 
 returns-2 : tie.Need-returns-2
-returns-2 c = starts-end (c .before .args .s .now) (c .before .args .at) _ (omega arith)
+returns-2 c = spells-end (λ x. x) (c .before .args .s .now) (c .before .args .at) _ (omega arith)
 
 pub is-at-spec : {M : Type 1} → statement M
 is-at-spec = tie.close (tie.spec shared-slice-read-result returns returns-2)

@@ -3,6 +3,7 @@ use mathlib.Core.Path.{_≡_, sym, ap, _∙_, subst}
 use Prim.Native.Nat.{ℕ, _+_, _-_}
 use native.Mathlib.Omega.{arith}
 use lib.ListN.{drop}
+use Rattle.wkt.specs.Rules.{capitalOf, rules}
 use Rattle.wkt.specs.Cursor.{numberSeen, numberOn}
 use Rattle.wkt.specs.Words.{postEnd}
 use Rattle.wkt.specs.Parse.{got, begins}
@@ -24,11 +25,11 @@ first c = ap (number (c .before .before .before .before .before .before .before 
 first-on : (c : tie.After-known-told) → numberOn (c .before .before .before .before .before .before .before .args .s .now) (c .before .before .before .before .before .before .before .args .at + 1) (Read (c .before .m .given .0 .0) (c .before .m .given .0 .1 .0))
 first-on c = subst (numberOn (c .before .before .before .before .before .before .before .args .s .now) (c .before .before .before .before .before .before .before .args .at + 1)) (c .before .m .given .1) (c .before .before .before .read-number .ensures .1)
 
-is-at-requires : tie.Need-is-at-requires
-is-at-requires c κs = search needs
+spells-at-requires : tie.Need-spells-at-requires
+spells-at-requires c κs = search needs
 
 add-read-number : tie.Need-add-read-number
-add-read-number c = omega (arith, inside (c .before .before .before .args .s .now) (c .before .before .before .args .at) 32 (sym (c .before .is-at .ensures) ∙ c .if1 .taken))
+add-read-number c = omega (arith, inside capitalOf (c .before .before .before .args .s .now) (c .before .before .before .args .at) 32 (sym (c .before .spells-at .ensures) ∙ c .if1 .taken))
 
 read-number-requires : tie.Need-read-number-requires
 read-number-requires c κs = search needs
@@ -51,9 +52,9 @@ returns c =
     let s = a .s .now in
     let i = c .before .before .before .before .m .given .0 .1 .0 in
     let on = first-on (c .before .before .before) in
-    let e : begins postEnd (drop i s) ≡ true = sym (c .before .begins-at .ensures) ∙ c .if2 .taken in
-    let room = begins-room postEnd s i e (omega arith) in
-    (ap (λ (t : List ℕ). got (c .before .before .before .before .m .given .0 .0) t) (sym (drop-drop 2 i s)) ∙ measure-end (a .whole) (a .part) (drop (a .at) s) true (c .before .before .before .before .m .given .0 .0) (drop i s) (sym (c .before .before .before .before .before .before .before .before .is-at .ensures) ∙ c .before .before .before .before .before .before .before .if1 .taken) (first (c .before .before .before)) e, (omega arith, room))
+    let e : begins capitalOf postEnd (drop i s) ≡ true = sym (c .before .begins-at .ensures) ∙ c .if2 .taken in
+    let room = begins-room capitalOf postEnd s i e (omega arith) in
+    (ap (λ (t : List ℕ). got (c .before .before .before .before .m .given .0 .0) t) (sym (drop-drop 2 i s)) ∙ measure-end (rules (a .whole) (a .part)) (drop (a .at) s) true (c .before .before .before .before .m .given .0 .0) (drop i s) (sym (c .before .before .before .before .before .before .before .before .spells-at .ensures) ∙ c .before .before .before .before .before .before .before .if1 .taken) (first (c .before .before .before)) e, (omega arith, room))
 
 enum-told : tie.Need-enum-told
 enum-told c = search needs
@@ -61,21 +62,21 @@ enum-told c = search needs
 returns-2 : tie.Need-returns-2
 returns-2 c =
     let a = c .before .before .before .before .before .before .before .before .before .before .args in
-    (measure-end (a .whole) (a .part) (drop (a .at) (a .s .now)) false (c .before .before .before .before .m .given .0 .0) (drop (c .before .before .before .before .m .given .0 .1 .0) (a .s .now)) (sym (c .before .before .before .before .before .before .before .before .is-at .ensures) ∙ c .before .before .before .before .before .before .before .if1 .taken) (first (c .before .before .before)) (sym (c .before .begins-at .ensures) ∙ c .if2 .left), tt)
+    (measure-end (rules (a .whole) (a .part)) (drop (a .at) (a .s .now)) false (c .before .before .before .before .m .given .0 .0) (drop (c .before .before .before .before .m .given .0 .1 .0) (a .s .now)) (sym (c .before .before .before .before .before .before .before .before .spells-at .ensures) ∙ c .before .before .before .before .before .before .before .if1 .taken) (first (c .before .before .before)) (sym (c .before .begins-at .ensures) ∙ c .if2 .left), tt)
 
 returns-3 : tie.Need-returns-3
 returns-3 c =
     let a = c .before .before .before .before .before .before .args in
-    (measure-bad (a .whole) (a .part) (drop (a .at) (a .s .now)) (sym (c .before .before .before .before .is-at .ensures) ∙ c .before .before .before .if1 .taken) (ap (number (a .whole) (a .part)) (drop-drop 1 (a .at) (a .s .now)) ∙ sym (c .before .before .read-number .ensures .0) ∙ ap (numberSeen (a .s .now)) (c .enum-told .given .1)), tt)
+    (measure-bad (rules (a .whole) (a .part)) (drop (a .at) (a .s .now)) (sym (c .before .before .before .before .spells-at .ensures) ∙ c .before .before .before .if1 .taken) (ap (number (a .whole) (a .part)) (drop-drop 1 (a .at) (a .s .now)) ∙ sym (c .before .before .read-number .ensures .0) ∙ ap (numberSeen (a .s .now)) (c .enum-told .given .1)), tt)
 
 returns-4 : tie.Need-returns-4
-returns-4 c = (measure-none _ _ _ (sym (c .before .is-at .ensures) ∙ c .if1 .left), tt)
+returns-4 c = (measure-none _ _ (sym (c .before .spells-at .ensures) ∙ c .if1 .left), tt)
 
 pub read-measure-spec : {M : Type 1} → statement M
 read-measure-spec =
     tie.close
     (tie.spec
-    is-at-requires
+    spells-at-requires
     add-read-number
     read-number-requires
     enum-known-m

@@ -12,7 +12,7 @@ is-at-requires : tie.Need-is-at-requires
 is-at-requires c κs = search needs
 
 add-unsigned-number : tie.Need-add-unsigned-number
-add-unsigned-number c = omega (arith, inside (c .before .before .before .args .s .now) (c .before .before .before .args .at) 45 (sym (c .before .is-at .ensures) ∙ c .if1 .taken))
+add-unsigned-number c = omega (arith, inside (λ x. x) (c .before .before .before .args .s .now) (c .before .before .before .args .at) 45 (sym (c .before .is-at .ensures) ∙ c .if1 .taken))
 
 unsigned-number-requires : tie.Need-unsigned-number-requires
 unsigned-number-requires c κs = search needs

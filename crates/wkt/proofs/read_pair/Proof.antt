@@ -34,8 +34,8 @@ read-number-requires c κs = search needs
 enum-known-x : tie.Need-enum-known-x
 enum-known-x c = search needs
 
-is-at-requires : tie.Need-is-at-requires
-is-at-requires c κs = search needs
+spells-at-requires : tie.Need-spells-at-requires
+spells-at-requires c κs = search needs
 
 add-read-number : tie.Need-add-read-number
 add-read-number c = omega (arith, first-on (c .before .before))
@@ -53,16 +53,16 @@ enum-told-2 : tie.Need-enum-told-2
 enum-told-2 c = search needs
 
 returns : tie.Need-returns
-returns c = (pair-done _ _ _ _ _ (first (c .before .before .before .before .before .before)) _ _ (sym (c .before .before .before .before .before .is-at .ensures) ∙ c .before .before .before .before .if1 .taken) (second c), (omega (arith, first-on (c .before .before .before .before .before .before), second-on c), second-on c .1))
+returns c = (pair-done _ _ _ _ (first (c .before .before .before .before .before .before)) _ _ (sym (c .before .before .before .before .before .spells-at .ensures) ∙ c .before .before .before .before .if1 .taken) (second c), (omega (arith, first-on (c .before .before .before .before .before .before), second-on c), second-on c .1))
 
 returns-2 : tie.Need-returns-2
-returns-2 c = (pair-cut _ _ _ _ _ (first (c .before .before .before .before .before)) (sym (c .before .before .before .before .is-at .ensures) ∙ c .before .before .before .if1 .taken) (ap (number (c .before .before .before .before .before .before .before .before .before .before .args .whole) (c .before .before .before .before .before .before .before .before .before .before .args .part)) (drop-drop 1 (c .before .before .before .before .before .before .x .given .0 .1 .0) (c .before .before .before .before .before .before .before .before .before .before .args .s .now)) ∙ sym (c .before .before .read-number2 .ensures .0) ∙ ap (numberSeen (c .before .before .before .before .before .before .before .before .before .before .args .s .now)) (c .enum-told .given .1)), tt)
+returns-2 c = (pair-cut _ _ _ _ (first (c .before .before .before .before .before)) (sym (c .before .before .before .before .spells-at .ensures) ∙ c .before .before .before .if1 .taken) (ap (number (c .before .before .before .before .before .before .before .before .before .before .args .whole) (c .before .before .before .before .before .before .before .before .before .before .args .part)) (drop-drop 1 (c .before .before .before .before .before .before .x .given .0 .1 .0) (c .before .before .before .before .before .before .before .before .before .before .args .s .now)) ∙ sym (c .before .before .read-number2 .ensures .0) ∙ ap (numberSeen (c .before .before .before .before .before .before .before .before .before .before .args .s .now)) (c .enum-told .given .1)), tt)
 
 returns-3 : tie.Need-returns-3
-returns-3 c = (pair-gap _ _ _ _ _ (first (c .before .before)) (sym (c .before .is-at .ensures) ∙ c .if1 .left), tt)
+returns-3 c = (pair-gap _ _ _ _ (first (c .before .before)) (sym (c .before .spells-at .ensures) ∙ c .if1 .left), tt)
 
 returns-4 : tie.Need-returns-4
-returns-4 c = (pair-none _ _ _ (sym (c .before .before .read-number .ensures .0) ∙ ap (numberSeen (c .before .before .before .before .args .s .now)) (c .enum-told2 .given .1)), tt)
+returns-4 c = (pair-none _ _ (sym (c .before .before .read-number .ensures .0) ∙ ap (numberSeen (c .before .before .before .before .args .s .now)) (c .enum-told2 .given .1)), tt)
 
 pub read-pair-spec : {M : Type 1} → statement M
 read-pair-spec =
@@ -70,7 +70,7 @@ read-pair-spec =
     (tie.spec
     read-number-requires
     enum-known-x
-    is-at-requires
+    spells-at-requires
     add-read-number
     read-number-requires-2
     enum-known-y

@@ -2,6 +2,7 @@
 use mathlib.Core.Path.{_≡_, sym, ap, _∙_, subst}
 use Prim.Native.Nat.{_-_}
 use lib.ListN.{drop}
+use Rattle.wkt.specs.Rules.{rules}
 use Rattle.wkt.specs.Cursor.{numberSeen, numberOn, pairSeen}
 use Rattle.wkt.specs.Grammar.{pair, point}
 use Rattle.wkt.specs.Parse.{got, wrong}
@@ -11,7 +12,7 @@ use borrow.Author.Needs.{needs}
 use Rattle.wkt.proofs.read_post.Statement.{statement}
 use Rattle.wkt.proofs.read_post.Tie as tie
 
-first : (c : tie.After-known-told) → pair (c .before .before .before .before .before .before .before .before .args .whole) (c .before .before .before .before .before .before .before .before .args .part) (drop 9 (c .before .before .before .before .before .before .before .before .args .s .now)) ≡ got (point (c .before .x .given .0 .0) (c .before .x .given .0 .1 .0)) (drop (c .before .x .given .0 .1 .1 .0) (c .before .before .before .before .before .before .before .before .args .s .now))
+first : (c : tie.After-known-told) → pair (rules (c .before .before .before .before .before .before .before .before .args .whole) (c .before .before .before .before .before .before .before .before .args .part)) (drop 9 (c .before .before .before .before .before .before .before .before .args .s .now)) ≡ got (point (c .before .x .given .0 .0) (c .before .x .given .0 .1 .0)) (drop (c .before .x .given .0 .1 .1 .0) (c .before .before .before .before .before .before .before .before .args .s .now))
 first c = sym (c .before .before .before .read-pair .ensures .0) ∙ ap (pairSeen (c .before .before .before .before .before .before .before .before .args .s .now)) (c .before .x .given .1)
 
 second-on : (c : tie.After-known-told2) → numberOn (c .before .before .before .before .before .before .before .before .before .before .before .before .args .s .now) (c .before .before .before .before .before .x .given .0 .1 .1 .0) (NR.Read (c .before .m .given .0 .0) (c .before .m .given .0 .1 .0))
@@ -44,20 +45,20 @@ enum-told-2 c = search needs
 returns : tie.Need-returns
 returns c =
     let a = c .before .before .before .before .before .before .before .before .before .before .before .before .args in
-    (post-end (a .whole) (a .part) (a .s .now) _ _ _ (got (c .before .m .given .0 .0) (drop (c .before .m .given .0 .1 .0) (a .s .now))) (sym (c .before .before .before .before .before .before .before .before .before .begins-at .ensures) ∙ c .before .before .before .before .before .before .before .before .if1 .taken) (first (c .before .before .before .before)) (sym (c .before .before .before .read-measure .ensures .0) ∙ ap (numberSeen (a .s .now)) (c .before .m .given .1)), second-on c .1)
+    (post-end (rules (a .whole) (a .part)) (a .s .now) _ _ _ (got (c .before .m .given .0 .0) (drop (c .before .m .given .0 .1 .0) (a .s .now))) (sym (c .before .before .before .before .before .before .before .before .before .begins-at .ensures) ∙ c .before .before .before .before .before .before .before .before .if1 .taken) (first (c .before .before .before .before)) (sym (c .before .before .before .read-measure .ensures .0) ∙ ap (numberSeen (a .s .now)) (c .before .m .given .1)), second-on c .1)
 
 returns-2 : tie.Need-returns-2
 returns-2 c =
     let a = c .before .before .before .before .before .before .before .before .before .before .before .args in
-    (post-end (a .whole) (a .part) (a .s .now) _ _ _ wrong (sym (c .before .before .before .before .before .before .before .before .begins-at .ensures) ∙ c .before .before .before .before .before .before .before .if1 .taken) (first (c .before .before .before)) (sym (c .before .before .read-measure .ensures .0) ∙ ap (numberSeen (a .s .now)) (c .enum-told .given .1)), tt)
+    (post-end (rules (a .whole) (a .part)) (a .s .now) _ _ _ wrong (sym (c .before .before .before .before .before .before .before .before .begins-at .ensures) ∙ c .before .before .before .before .before .before .before .if1 .taken) (first (c .before .before .before)) (sym (c .before .before .read-measure .ensures .0) ∙ ap (numberSeen (a .s .now)) (c .enum-told .given .1)), tt)
 
 returns-3 : tie.Need-returns-3
 returns-3 c =
     let a = c .before .before .before .before .before .before .before .args in
-    (post-by (a .whole) (a .part) (a .s .now) wrong (sym (c .before .before .before .before .begins-at .ensures) ∙ c .before .before .before .if1 .taken) (sym (c .before .before .read-pair .ensures .0) ∙ ap (pairSeen (a .s .now)) (c .enum-told2 .given .1)), tt)
+    (post-by (rules (a .whole) (a .part)) (a .s .now) wrong (sym (c .before .before .before .before .begins-at .ensures) ∙ c .before .before .before .if1 .taken) (sym (c .before .before .read-pair .ensures .0) ∙ ap (pairSeen (a .s .now)) (c .enum-told2 .given .1)), tt)
 
 returns-4 : tie.Need-returns-4
-returns-4 c = (post-none _ _ _ (sym (c .before .begins-at .ensures) ∙ c .if1 .left), tt)
+returns-4 c = (post-none _ _ (sym (c .before .begins-at .ensures) ∙ c .if1 .left), tt)
 
 pub read-post-spec : {M : Type 1} → statement M
 read-post-spec =

@@ -1,5 +1,6 @@
 -- `wkt::read_text` meets its contract. Assumes nothing.
 use Rattle.wkt.proofs.Texts.{text-by, text-long, say-all, say-nine}
+use Rattle.wkt.specs.Rules.{rules}
 use Rattle.wkt.specs.Cursor.{postSeen, postOn}
 use Rattle.wkt.specs.Grammar.{post, polygons, textOf}
 use Rattle.wkt.specs.Parse.{got, wrong}
@@ -37,15 +38,15 @@ returns c =
     let s = a .s .now in
     let h = c .before .before .before .before .before .before .before .before .before .x .given .0 in
     let i = h .1 .1 .1 .0 in
-    let p = text-by (a .whole) (a .part) s (got (post (h .0) (h .1 .0) (h .1 .1 .0)) (drop i s)) (omega arith) (sym (c .before .before .before .before .before .before .before .before .before .before .before .read-post .ensures .0) ∙ ap (postSeen s) (c .before .before .before .before .before .before .before .before .before .x .given .1)) in
-    let r = say-all (h .0) (h .1 .0) (h .1 .1 .0) (textOf (a .whole) (a .part) s) (polygons (a .whole) (a .part) (length (drop i s)) (drop i s)) (c .before .before .before .before .before .read-polygons .result) (a .pts .now) (a .lens .now) _ _ p (c .before .before .before .before .before .read-polygons .ensures .0) (c .before .before .before .before .before .read-polygons .ensures .1) in
+    let p = text-by (rules (a .whole) (a .part)) s (got (post (h .0) (h .1 .0) (h .1 .1 .0)) (drop i s)) (omega arith) (sym (c .before .before .before .before .before .before .before .before .before .before .before .read-post .ensures .0) ∙ ap (postSeen s) (c .before .before .before .before .before .before .before .before .before .x .given .1)) in
+    let r = say-all (h .0) (h .1 .0) (h .1 .1 .0) (textOf (rules (a .whole) (a .part)) s) (polygons (rules (a .whole) (a .part)) (length (drop i s)) (drop i s)) (c .before .before .before .before .before .read-polygons .result) (a .pts .now) (a .lens .now) _ _ p (c .before .before .before .before .before .read-polygons .ensures .0) (c .before .before .before .before .before .read-polygons .ensures .1) in
     (c .answer .ensures ∙ r .0, r .1)
 
 returns-2 : tie.Need-returns-2
-returns-2 c = say-nine _ (c .before .before .before .before .before .before .before .args .pts .now) (c .before .before .before .before .before .before .before .args .lens .now) _ _ (text-by _ _ _ wrong (omega arith) (sym (c .before .before .read-post .ensures .0) ∙ ap (postSeen (c .before .before .before .before .before .before .before .args .s .now)) (c .enum-told .given .1)))
+returns-2 c = say-nine _ (c .before .before .before .before .before .before .before .args .pts .now) (c .before .before .before .before .before .before .before .args .lens .now) _ _ (text-by _ _ wrong (omega arith) (sym (c .before .before .read-post .ensures .0) ∙ ap (postSeen (c .before .before .before .before .before .before .before .args .s .now)) (c .enum-told .given .1)))
 
 returns-3 : tie.Need-returns-3
-returns-3 c = say-nine _ (c .before .before .before .before .args .pts .now) (c .before .before .before .before .args .lens .now) _ _ (text-long _ _ _ (omega arith))
+returns-3 c = say-nine _ (c .before .before .before .before .args .pts .now) (c .before .before .before .before .args .lens .now) _ _ (text-long _ _ (omega arith))
 
 pub read-text-spec : {M : Type 1} → statement M
 read-text-spec =
