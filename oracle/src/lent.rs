@@ -680,6 +680,7 @@ pub const INNER: Drawing = Drawing::InMode(bf_inner_compute_visibility);
 #[link(name = "exports_text", kind = "static")]
 unsafe extern "C" {
     fn bf_answer(text: *const u8, text_len: usize, out: *mut u8, out_len: usize) -> usize;
+    fn bf_answer_three(text: *const u8, text_len: usize, out: *mut u8, out_len: usize) -> usize;
 }
 
 /// The text program's answer: how long it is. As much of it as there is room for is written.
@@ -687,4 +688,10 @@ pub fn answer(text: &[u8], out: &mut [u8]) -> usize {
     // SAFETY: pointers and lengths are those of slices that outlive the call, and the function has
     // no `requires`.
     unsafe { bf_answer(text.as_ptr(), text.len(), out.as_mut_ptr(), out.len()) }
+}
+
+/// The same with three decimals.
+pub fn answer_three(text: &[u8], out: &mut [u8]) -> usize {
+    // SAFETY: as above.
+    unsafe { bf_answer_three(text.as_ptr(), text.len(), out.as_mut_ptr(), out.len()) }
 }

@@ -4,6 +4,7 @@
 //!     bench [module..]     times, which decide nothing
 //!     sample FILE FILE     writes the samples for crates `replay` and `replay_sites`, and reads them back
 //!     texts FOLDER         writes texts and their answers, for a reader of Well-Known Text that is not ours
+//!     cases FILE           prints the worked out answers to the stored cases
 //!     earlier NOW EARLIER [no-mode]   times beside an earlier build, both as shared objects
 //!
 //! A further crate is compared by a module of its own here, with an entry in a list below.
@@ -105,7 +106,7 @@ const WITH_PUBLISHED: &[Module] = &[
 #[cfg(not(published))]
 const WITH_PUBLISHED: &[Module] = &[];
 
-const USAGE: &str = "usage: compare|bench [module..], or sample FILE FILE, or texts FOLDER, or earlier NOW EARLIER [no-mode]";
+const USAGE: &str = "usage: compare|bench [module..], or sample FILE FILE, or texts FOLDER, or cases FILE, or earlier NOW EARLIER [no-mode]";
 
 fn main() -> ExitCode {
     let words: Vec<String> = std::env::args().skip(1).collect();
@@ -115,6 +116,7 @@ fn main() -> ExitCode {
     match command.as_str() {
         "sample" => return sample(names),
         "texts" => return texts(names),
+        "cases" => return cases(names),
         "earlier" | "earlier-once" => return earlier(command, names),
         _ => (),
     }
@@ -179,6 +181,14 @@ fn texts(words: &[String]) -> ExitCode {
 }
 
 #[cfg(published)]
+fn cases(words: &[String]) -> ExitCode {
+    let [file] = words else {
+        return refuse(USAGE);
+    };
+    written("cases", text::cases::print(file).map_err(|e| e.to_string()))
+}
+
+#[cfg(published)]
 fn earlier(command: &str, words: &[String]) -> ExitCode {
     let no_mode = words.last().is_some_and(|w| w == "no-mode");
     match (command, &words[..words.len() - usize::from(no_mode)]) {
@@ -209,6 +219,10 @@ fn sample(_: &[String]) -> ExitCode {
 #[cfg(not(published))]
 fn texts(_: &[String]) -> ExitCode {
     not_at_hand("texts")
+}
+#[cfg(not(published))]
+fn cases(_: &[String]) -> ExitCode {
+    not_at_hand("cases")
 }
 #[cfg(not(published))]
 fn earlier(command: &str, _: &[String]) -> ExitCode {

@@ -1,6 +1,6 @@
-//! The inner functions of crates `grid`, `tables` and `walk`, as crate `probe` hands them to C
-//! (crates/probe/src/lib.rt). They are for comparing and timing alone, and no part of the interface
-//! for users.
+//! The inner functions of crates `grid`, `tables`, `walk`, `wkt` and `wkt_print`, as crate `probe` hands
+//! them to C (crates/probe/src/lib.rt). They are for comparing and timing alone, and no part of the
+//! interface for users.
 //!
 //! Nothing checks these declarations against the Rattle source: keep the two side by side. What has a
 //! `requires` there stands behind a safe function here that sees to it.
@@ -98,6 +98,15 @@ unsafe extern "C" {
         out_len: usize,
     ) -> usize;
     fn bf_inner_next_epoch(marks: *mut u32, marks_len: usize, epoch: &mut u32);
+    fn bf_inner_print_number(x: f64, places: usize, out: *mut u8, out_len: usize) -> usize;
+    fn bf_inner_read_input(
+        text: *const u8,
+        text_len: usize,
+        pts: *mut f64,
+        pts_len: usize,
+        lens: *mut u32,
+        lens_len: usize,
+    ) -> u32;
 }
 
 /// Document 01's limits, which `build` asks for.
@@ -305,4 +314,29 @@ impl Tables {
 pub fn next_epoch(marks: &mut [u32], epoch: &mut u32) {
     // SAFETY: pointer and length are those of one slice, which outlives the call.
     unsafe { bf_inner_next_epoch(marks.as_mut_ptr(), marks.len(), epoch) }
+}
+
+/// How long a number is with so many decimals. As much of it as there is room for is written, and nothing
+/// behind it.
+pub fn print_number(x: f64, places: usize, out: &mut [u8]) -> usize {
+    assert!(places <= 6, "as `bf_inner_print_number` asks");
+    // SAFETY: pointer and length are those of one slice, which outlives the call; the places were tested.
+    unsafe { bf_inner_print_number(x, places, out.as_mut_ptr(), out.len()) }
+}
+
+/// The refusal of a text or 0; the coordinates of all rings and their lengths are written as far as there
+/// is room, with zeros behind.
+pub fn read_input(text: &[u8], pts: &mut [f64], lens: &mut [u32]) -> u32 {
+    // SAFETY: pointers and lengths are those of three slices, which outlive the call; there is no
+    // `requires`.
+    unsafe {
+        bf_inner_read_input(
+            text.as_ptr(),
+            text.len(),
+            pts.as_mut_ptr(),
+            pts.len(),
+            lens.as_mut_ptr(),
+            lens.len(),
+        )
+    }
 }

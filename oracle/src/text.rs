@@ -1,14 +1,18 @@
-//! Crate `planner`, the text program's whole answer (crate `exports_text`): byte for byte the answer
-//! that is worked out here from the documents' words and the published Rust, with both substitutions
-//! (`text/expected.rs`). Texts as laid out, in rooms that are just enough, longer and too short; the same
-//! as a survey office writes them; and damaged ones, refused 9 exactly where a second reader, of another
-//! shape, says so.
+//! Crate `planner`, the text program's whole answer (crate `exports_text`), with six decimals and with
+//! three: byte for byte the answer that is worked out here from the documents' words and the published
+//! Rust, with both substitutions (`text/expected.rs`). Texts as laid out, in rooms that are just enough,
+//! longer and too short; the same as a survey office writes them; ones with up to seven decimals; and
+//! damaged ones, refused 9 exactly where a second reader, of another shape, says so. Besides, single numbers
+//! as ours prints and reads them.
 
+pub mod cases;
 mod damage;
+mod decimals;
 mod expected;
 mod inputs;
 mod print;
 mod reader;
+mod reading;
 mod survey;
 mod write;
 
@@ -19,6 +23,7 @@ use crate::util::rng::SplitMix64;
 use crate::util::table::{Table, count};
 use crate::util::tally::{self, Tally, Value};
 use crate::view::LISTS;
+use decimals::Decimals;
 use expected::{ENTRIES, Expected, MOST_CELLS, MOST_OUTLINE};
 use inputs::Text;
 use std::collections::HashSet;
@@ -26,9 +31,11 @@ use std::hash::{DefaultHasher, Hasher};
 use survey::Survey;
 
 pub fn compare() -> bool {
-    let printer = print::held();
+    let printing = print::compare();
+    let reading = reading::compare();
     let mut held = Held::new();
     let mut survey = Survey::new();
+    let mut decimals = Decimals::new();
     let mut table = counts_table("inputs: texts");
     for (i, group) in inputs::groups().iter().enumerate() {
         let r = &mut SplitMix64::new(8_000 + i as u64);
@@ -38,6 +45,7 @@ pub fn compare() -> bool {
             let text = (group.make)(r);
             let expected = expected::answer(&text);
             counts.add(&expected);
+            decimals.count(&text);
             held.whole(r, &text, &expected);
             survey.hold(s, &text, &mut held.asked);
         }
@@ -47,6 +55,8 @@ pub fn compare() -> bool {
     table.row(held.all.row("all"));
     table.print();
     held.reach.print();
+    decimals.hold(&mut held.asked);
+    decimals.print();
     survey.print();
     let mut table = counts_table("inputs: damaged texts");
     let mut all = Counts::default();
@@ -58,17 +68,22 @@ pub fn compare() -> bool {
     }
     table.row(all.row("all"));
     table.print();
-    tally::print(&[
+    let mut tallies = vec![
         held.sample,
         held.exact,
         held.longer,
         held.short,
-        survey.worked_out,
-        survey.capitals,
-        survey.over,
-        held.damaged,
-        printer,
-    ])
+        held.three,
+        held.three_short,
+    ];
+    tallies.extend(survey.worked_out.0);
+    tallies.extend([survey.capitals, survey.over]);
+    tallies.extend(decimals.worked_out.0);
+    tallies.extend([decimals.nine, decimals.alike]);
+    tallies.extend(held.damaged.0);
+    tallies.extend(printing);
+    tallies.extend(reading);
+    tally::print(&tallies)
 }
 
 // ---- what is counted
@@ -122,13 +137,13 @@ struct Reach {
     empty: u64,
     points: u64,
     visible: u64,
-    halves: u64,
-    longest: u64,
+    /// Of six decimals, and of three.
+    halves: [u64; 2],
+    longest: [u64; 2],
 }
 
 impl Reach {
     fn add(&mut self, expected: &Expected) {
-        self.longest = self.longest.max(expected.bytes.len() as u64);
         let mut needs = vec![expected.cells as u64];
         if let Some(run) = &expected.run {
             needs.extend(run.needs.map(u64::from));
@@ -146,7 +161,9 @@ impl Reach {
             self.empty += u64::from(run.points == 0);
             self.points += run.points as u64;
             self.visible += run.visible as u64;
-            self.halves += run.halves as u64;
+            for (n, program) in self.halves.iter_mut().zip(BOTH) {
+                *n += expected.halves(program.places) as u64;
+            }
         }
     }
 
@@ -157,8 +174,16 @@ impl Reach {
             ("outline points", self.points),
             ("outlines without points", self.empty),
             ("visible polygons", self.visible),
-            ("coordinates half-way between two decimals", self.halves),
-            ("bytes of the longest answer", self.longest),
+            (
+                "printed coordinates half-way between two of six decimals",
+                self.halves[0],
+            ),
+            ("between two of three decimals", self.halves[1]),
+            (
+                "bytes of the longest answer with six decimals",
+                self.longest[0],
+            ),
+            ("with three decimals", self.longest[1]),
         ] {
             table.row(vec![what.to_string(), count(n)]);
         }
@@ -213,18 +238,54 @@ impl Value for Told<'_> {
 /// What the room holds before a call.
 const FILL: u8 = 0xA5;
 
-fn hold(tally: &mut Tally, text: &[u8], expected: &[u8], room: usize) {
-    let mut out = vec![FILL; room];
-    let n = lent::answer(text, &mut out);
-    let mut all = expected.to_vec();
-    all.resize(room, 0);
-    tally.add(Given(text), Told(n, &out), Told(expected.len(), &all));
+/// A call of the text program, and how many decimals it prints.
+#[derive(Clone, Copy)]
+struct Program {
+    answer: fn(&[u8], &mut [u8]) -> usize,
+    places: usize,
+}
+
+const SIX: Program = Program {
+    answer: lent::answer,
+    places: 6,
+};
+const THREE: Program = Program {
+    answer: lent::answer_three,
+    places: 3,
+};
+const BOTH: [Program; 2] = [SIX, THREE];
+
+impl Program {
+    fn hold(self, tally: &mut Tally, text: &[u8], expected: &[u8], room: usize) {
+        let mut out = vec![FILL; room];
+        let n = (self.answer)(text, &mut out);
+        let mut all = expected.to_vec();
+        all.resize(room, 0);
+        tally.add(Given(text), Told(n, &out), Told(expected.len(), &all));
+    }
 }
 
 /// What `expected::answer` says.
 const WORKED_OUT: &str = "worked out here, by the Rust";
 
-/// Our whole answer.
+/// Both calls beside it, in room just enough or a few bytes longer.
+struct Both([Tally; 2]);
+
+impl Both {
+    fn new(names: [&'static str; 2]) -> Self {
+        Self(names.map(|name| Tally::new([name, WORKED_OUT])))
+    }
+
+    fn hold(&mut self, r: &mut SplitMix64, text: &[u8], expected: &Expected) {
+        for (tally, program) in self.0.iter_mut().zip(BOTH) {
+            let bytes = expected.printed(program.places);
+            let room = bytes.len() + r.below(9) as usize;
+            program.hold(tally, text, &bytes, room);
+        }
+    }
+}
+
+/// Our whole answer, with six decimals.
 fn ours(text: &[u8]) -> Text {
     let mut out = vec![0; lent::answer(text, &mut [])];
     lent::answer(text, &mut out);
@@ -236,7 +297,9 @@ struct Held {
     exact: Tally,
     longer: Tally,
     short: Tally,
-    damaged: Tally,
+    three: Tally,
+    three_short: Tally,
+    damaged: Both,
     all: Counts,
     reach: Reach,
     /// Texts that were asked before, by their hash.
@@ -249,22 +312,31 @@ fn hash(text: &[u8]) -> u64 {
     hasher.finish()
 }
 
-/// Document 01's own example.
-const SAMPLE: [&[u8]; 2] = [
-    b"POINT M (0 0 0.1)\n",
+/// Document 01's own example, and its answer with six decimals and with three.
+const SAMPLE: &[u8] = b"POINT M (0 0 0.1)\n";
+const ANSWERS: [&[u8]; 2] = [
+    b"POLYGON ((-0.100000 0.000000, 0.000000 -0.100000, 0.100000 0.000000, 0.000000 0.100000, -0.100000 0.000000))\n",
     b"POLYGON ((-0.100 0.000, 0.000 -0.100, 0.100 0.000, 0.000 0.100, -0.100 0.000))\n",
 ];
 
 impl Held {
     fn new() -> Self {
-        let mut sample = Tally::new(["answer to document 01's example", "its words"]);
-        hold(&mut sample, SAMPLE[0], SAMPLE[1], SAMPLE[1].len());
+        let mut sample = Tally::new([
+            "answer and answer_three to document 01's example",
+            "its words",
+        ]);
+        for (program, answer) in BOTH.into_iter().zip(ANSWERS) {
+            program.hold(&mut sample, SAMPLE, answer, answer.len());
+        }
+        let fits = "what fits, the same length";
         Self {
             sample,
             exact: Tally::new(["answer, room just enough", WORKED_OUT]),
-            longer: Tally::new(["longer room", "zeros after it"]),
-            short: Tally::new(["room too short", "what fits, the same length"]),
-            damaged: Tally::new(["answer to a damaged text", WORKED_OUT]),
+            longer: Tally::new(["answer, longer room", "zeros after it"]),
+            short: Tally::new(["answer, room too short", fits]),
+            three: Tally::new(["answer_three, room just enough", WORKED_OUT]),
+            three_short: Tally::new(["answer_three, room one byte short", fits]),
+            damaged: Both::new(["answer to a damaged text", "answer_three to a damaged text"]),
             all: Counts::default(),
             reach: Reach::default(),
             asked: HashSet::new(),
@@ -274,13 +346,20 @@ impl Held {
     fn whole(&mut self, r: &mut SplitMix64, text: &[u8], expected: &Expected) {
         self.reach.add(expected);
         self.reach.distinct += u64::from(self.asked.insert(hash(text)));
-        let all = &expected.bytes;
-        let n = all.len();
-        hold(&mut self.exact, text, all, n);
-        hold(&mut self.longer, text, all, n + 1 + r.below(200) as usize);
-        for room in [0, 1, n / 2, n - 1] {
-            hold(&mut self.short, text, all, room);
+        let all = BOTH.map(|program| expected.printed(program.places));
+        for (longest, all) in self.reach.longest.iter_mut().zip(&all) {
+            *longest = (*longest).max(all.len() as u64);
         }
+        let [six, three] = all;
+        let n = six.len();
+        SIX.hold(&mut self.exact, text, &six, n);
+        SIX.hold(&mut self.longer, text, &six, n + 1 + r.below(200) as usize);
+        for room in [0, 1, n / 2, n - 1] {
+            SIX.hold(&mut self.short, text, &six, room);
+        }
+        let n = three.len();
+        THREE.hold(&mut self.three, text, &three, n);
+        THREE.hold(&mut self.three_short, text, &three, n - 1);
     }
 
     /// A text of the pool with a damage that changes it, and not one that was asked before.
@@ -305,8 +384,7 @@ impl Held {
             let text = self.unseen(r, &pool, kind);
             let expected = expected::answer(&text);
             counts.add(&expected);
-            let room = expected.bytes.len() + r.below(9) as usize;
-            hold(&mut self.damaged, &text, &expected.bytes, room);
+            self.damaged.hold(r, &text, &expected);
         }
         counts
     }

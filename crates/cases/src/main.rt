@@ -1,15 +1,15 @@
 // The cases of the text program: each refusal that a text can meet, the texts on both sides of a limit, and texts that are answered
-// (document 01, "The text program" and "Refusal numbers"; document 02, Q-2). Standard input holds them one after the other:
+// (document 01, "The text program" and "Refusal numbers"; document 02, Q-2 and Q-7). Standard input holds them one after the other:
 //   a line BYTES NAME; so many bytes, which are the text, whatever they are; LF.
-// So a text that ends with LF is followed by an empty line. The name says what the documents ask for. Each case's line is printed again, and after it
-// what `planner::answer` answers.
+// So a text that ends with LF is followed by an empty line. The name says what the documents ask for. Each case's line is printed again, after it what
+// `planner::answer` answers, then a line 3 DECIMALS and what `planner::answer_three` does.
 use libc::STDIN_FILENO;
 use libc::STDOUT_FILENO;
 
 // One byte more than a text may have.
 const MOST: usize = 16385;
 
-// The longest answer here, an outline of 2,048 points, has 44,739 bytes.
+// The longest answer here, an outline of 2,048 points, has 57,033 bytes.
 const ROOM: usize = 65536;
 
 // How many bytes of text follow, or that no case is left.
@@ -61,16 +61,24 @@ fn pass_name() {
     }
 }
 
-// Reads a text of n bytes and the LF after it, and prints the answer. What is longer than the room for it is not printed.
+// Prints an answer of r bytes. What is longer than the room for it is not printed.
+fn print_answer(r: usize, out: &[u8]) {
+    if r <= out.len() {
+        io::write_all(STDOUT_FILENO, &out[0..r]);
+    }
+}
+
+// Reads a text of n bytes and the LF after it, and prints both answers.
 fn print_case(n: usize, text: &mut [u8], out: &mut [u8]) {
     if n <= text.len() {
         let got = io::read_full(STDIN_FILENO, &mut text[0..n]);
         let mut end = [0u8; 1];
         io::read_full(STDIN_FILENO, &mut end);
-        let r = planner::answer(&text[0..got], out);
-        if r <= out.len() {
-            io::write_all(STDOUT_FILENO, &out[0..r]);
-        }
+        let r = planner::answer(&text[0..got], &mut *out);
+        print_answer(r, &*out);
+        io::write_all(STDOUT_FILENO, b"3 DECIMALS\n");
+        let k = planner::answer_three(&text[0..got], &mut *out);
+        print_answer(k, &*out);
     }
 }
 

@@ -14,6 +14,8 @@ use Rattle.walk.specs.declared.Course.{Course}
 use Rattle.walk.specs.declared.Place.{Place}
 use Rattle.walk.specs.Steps.{cellNumber}
 use Rattle.walk.specs.Tours.{tour, passerBy}
+use Rattle.wkt.specs.declared.Input.{Input}
+use Rattle.wkt.specs.declared.Input.the-variants as input
 
 -- the grid of six numbers: its low corner, the size of a cell, one over it, columns and rows
 abbrev pub gridOf : Float → Float → Float → Float → ℕ → ℕ → Grid
@@ -54,3 +56,8 @@ lows cells = map low cells
 -- the cells of the whole walk from the place p on
 unfoldable pub cellsAlong : Course → Place → List ℕ
 cellsAlong k p = lows (map (cellNumber k) (tour passerBy k p tt .places))
+
+-- ---- reading a text answers 0, or the refusal's number
+abbrev pub inputStatus : Input → ℕ
+inputStatus (input.Read x y range polygons points) = 0
+inputStatus (input.Refused n) = n

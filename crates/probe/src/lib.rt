@@ -1,5 +1,5 @@
-// The probe: inner functions of `grid`, `tables` and `walk` for the oracle's comparing and timing alone. It is no part of the C interface for users
-// (crate `exports`): nothing here tests the tables that it is lent.
+// The probe: inner functions of `grid`, `tables` and `walk`, and of `wkt` and `wkt_print`, for the oracle's comparing and timing alone. It is no part of the
+// C interface for users (crate `exports`): nothing here tests the tables that it is lent.
 // Each function is one call of the library under it, with its promise and its `requires`; `bf_inner_ray_cells` runs the walk to its end.
 // A grid is six numbers, a box four. In C a slice is a pointer and a length, and an array is a pointer.
 mod numbers;
@@ -10,6 +10,7 @@ use walk::Place;
 use walk::Start;
 use walk::Step;
 ghost use mathlib.Core.Path.{_≡_};
+ghost use Prim.Native.Nat.{_≤_};
 ghost use lib.ListN.{length, getD};
 ghost use lib.Seq.{sets};
 ghost use Rattle.geom.specs.Vec.{vec};
@@ -23,7 +24,9 @@ ghost use Rattle.tables.specs.Tables.{Buildable};
 ghost use Rattle.tables.specs.Tables as tables;
 ghost use Rattle.walk.specs.Steps.{OnGrid};
 ghost use Rattle.walk.specs.Tours.{rayCells, passerBy};
-ghost use Rattle.probe.specs.Numbers.{gridOf, found, fourOf, Builds, low, lows, cellsAlong};
+ghost use Rattle.wkt.specs.Answer.{textIn, inputOf, Says};
+ghost use Rattle.wkt_print.specs.Decimal.{shown, Printed};
+ghost use Rattle.probe.specs.Numbers.{gridOf, found, fourOf, Builds, low, lows, cellsAlong, inputStatus};
 
 #[no_mangle]
 pub extern "C" fn bf_inner_columns(extent: f64, cell: f64) -> u64
@@ -220,4 +223,24 @@ pub extern "C" fn bf_inner_next_epoch(marks: &mut [u32], epoch: &mut u32)
     ensures { λ _. ⌜ now (marks .exit) ≡ marksBegun (now (epoch .entry)) (now (marks .entry)) ⌝ }
 {
     grid::next_epoch(marks, epoch);
+}
+
+// ---- text
+
+// What is read of a text: 0, or the refusal's number.
+#[no_mangle]
+pub extern "C" fn bf_inner_read_input(text: &[u8], pts: &mut [f64], lens: &mut [u32]) -> u32
+    ensures { λ r. ⌜ r ≡ inputStatus (inputOf (textIn (now (text .entry)))) ⌝ }
+    ensures { λ r. ⌜ Says (now (text .entry)) (length (now (pts .entry))) (length (now (lens .entry))) (inputOf (textIn (now (text .entry)))) (now (pts .exit)) (now (lens .exit)) ⌝ }
+{
+    numbers::input_status(wkt::read_input(text, pts, lens))
+}
+
+// A number with `places` decimals, from the start of `out`.
+#[no_mangle]
+pub extern "C" fn bf_inner_print_number(x: f64, places: usize, out: &mut [u8]) -> usize
+    requires { ⌜ places ≤ 6 ⌝ }
+    ensures { λ r. ⌜ Printed (now (out .entry)) 0 (shown places x) (now (out .exit)) r ⌝ }
+{
+    wkt_print::print_number(out, 0, x, places)
 }

@@ -5,10 +5,11 @@ use grid::Grid;
 use grid::Listing;
 use grid::Range;
 use tables::Built;
+use wkt::Input;
 ghost use mathlib.Core.Path.{_≡_};
 ghost use Rattle.grid.specs.Boxes.{boxAt};
 ghost use Rattle.grid.specs.Numbers.{listedStatus, listedCounts};
-ghost use Rattle.probe.specs.Numbers.{gridOf, found, fourOf, builtStatus, builtCount};
+ghost use Rattle.probe.specs.Numbers.{gridOf, found, fourOf, builtStatus, builtCount, inputStatus};
 
 pub fn grid_of(gx: f64, gy: f64, cell: f64, inv: f64, cols: u32, rows: u32) -> Grid
     ensures { λ r. ⌜ r ≡ gridOf gx gy cell inv cols rows ⌝ }
@@ -90,5 +91,20 @@ pub fn put_counts(out: &mut [u64; 2], a: Listing)
         Listing::Refused(_) => {
             *out = [0, 0];
         }
+    }
+}
+
+pub fn input_status(a: Input) -> u32
+    ensures { λ r. ⌜ r ≡ inputStatus a ⌝ }
+{
+    match a {
+        Input::Read {
+            x: _,
+            y: _,
+            range: _,
+            polygons: _,
+            points: _,
+        } => 0,
+        Input::Refused(n) => n,
     }
 }

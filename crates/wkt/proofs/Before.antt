@@ -4,7 +4,7 @@
 use mathlib.Core.Path.{_≡_, refl, sym, ap, _∙_, subst}
 use mathlib.Core.Bool.{Bool, true, false, false≢true}
 use mathlib.Core.List.{List, [], _∷_}
-use Prim.Native.Nat.{ℕ, zero, suc, _<_}
+use Prim.Native.Nat.{ℕ, zero, suc, _≤_, _<_}
 use native.Mathlib.Nat.{le-refl}
 use native.Mathlib.Omega.{arith}
 use lib.ListN.{length}
@@ -18,14 +18,15 @@ use Rattle.wkt.specs.Grammar.{Point, polygon, Post, postLine, Text, scen
 use Rattle.wkt.proofs.Prefix.{not-got, same-got}
 use Rattle.wkt.proofs.Lined.{polygon-empty, polygon-ring}
 use Rattle.wkt.proofs.Raised.{up, polygon-raised, text-raised}
-use Rattle.wkt.proofs.Wider.{kept-both, ring-kept, kept-post, text-more}
+use Rattle.wkt.proofs.Wider.{kept-both, ring-more, post-more, text-more}
 
 -- ---- READ BEFORE
-former-wider : (w f : ℕ) → Wider (former w f) (rules w f)
-former-wider w f = record { words = record { whole = refl; part = le-refl f; letter = λ b c k e. ap capitalOf e ∙ k }; empty = λ i. absurd (false≢true i) }
+former-wider : (w f g : ℕ) → f ≤ g → Wider (former w f) (rules w g)
+former-wider w f g h = record { words = record { whole = refl; part = h; letter = λ b c k e. ap capitalOf e ∙ k }; empty = λ i. absurd (false≢true i) }
 
-pub read-before : (w f : ℕ) (t : List ℕ) (x : Text) (u : List ℕ) → textOf (former w f) t ≡ got x u → textOf (rules w f) t ≡ got x u
-read-before w f t x u e = text-more (former w f) (rules w f) (former-wider w f) t x u e
+-- also with more decimals allowed
+pub read-before : (w f g : ℕ) → f ≤ g → (t : List ℕ) (x : Text) (u : List ℕ) → textOf (former w f) t ≡ got x u → textOf (rules w g) t ≡ got x u
+read-before w f g h t x u e = text-more (former w f) (rules w g) (former-wider w f g h) t x u e
 
 -- ---- NOTHING ELSE MOVES
 module _ (w f : ℕ) where
@@ -44,8 +45,8 @@ module _ (w f : ℕ) where
   other-line t e =
       polygon-raised w f false capitalOf (λ b. b) (λ x. refl) t
       ∙ ap up (kept-both (polygon between t) (polygon (rules w f) t)
-      (record { is = λ ps u i. ring-kept between (rules w f) more t .is ps u (polygon-ring between t refl ∙ i) })
-      (record { is = λ ps u i. ring-kept (rules w f) between less t .is ps u (polygon-ring (rules w f) t e ∙ i) }))
+      (λ ps u i. ring-more between (rules w f) more t ps u (polygon-ring between t refl ∙ i))
+      (λ ps u i. ring-more (rules w f) between less t ps u (polygon-ring (rules w f) t e ∙ i)))
 
   -- a polygon that has points is read without EMPTY
   filled : (t : List ℕ) (ps : List Point) (u : List ℕ) → polygon (rules w f) t ≡ got ps u → 0 < length ps → polygon between t ≡ got ps u
@@ -55,7 +56,7 @@ module _ (w f : ℕ) where
       go true i =
           let z : length ps ≡ 0 = ap length (same-got [] ps _ u (sym (polygon-empty (rules w f) t i) ∙ e) .0) in
           absurd (omega arith)
-      go false i = ring-kept (rules w f) between less t .is ps u (polygon-ring (rules w f) t i ∙ e)
+      go false i = ring-more (rules w f) between less t ps u (polygon-ring (rules w f) t i ∙ e)
 
   module _ (n : ℕ) (h : (t : List ℕ) (rs : List (List Point)) (u : List ℕ) → polygons (rules w f) n t ≡ got rs u → All (λ ps. 0 < length ps) rs → polygons between n t ≡ got rs u) where
     on-lines : (ps : List Point) (v : List ℕ) (r : Parse (List (List Point))) → polygons (rules w f) n v ≡ r → (rs : List (List Point)) (u : List ℕ) → join ps r ≡ got rs u → All (λ ps. 0 < length ps) rs
@@ -97,7 +98,7 @@ module _ (w f : ℕ) where
 
   on-post : (t : List ℕ) (r : Parse Post) → postLine (rules w f) t ≡ r → (x : Text) (u : List ℕ) → andThen r (posted (rules w f)) ≡ got x u → NoneEmpty (got x u) → andThen (postLine between t) (posted between) ≡ got x u
   on-post t (got p v) q x u e a =
-      ap (λ (r : Parse Post). andThen r (posted between)) (kept-post (rules w f) between less t .is p v q) ∙ after-post p v (polygons (rules w f) (length v) v) refl x u e a
+      ap (λ (r : Parse Post). andThen r (posted between)) (post-more (rules w f) between less t p v q) ∙ after-post p v (polygons (rules w f) (length v) v) refl x u e a
   on-post t wrong q x u e a = absurd (not-got x u e)
 
   read : (t : List ℕ) (x : Text) (u : List ℕ) → textOf (rules w f) t ≡ got x u → NoneEmpty (got x u) → textOf between t ≡ got x u

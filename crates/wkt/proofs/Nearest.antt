@@ -188,7 +188,7 @@ module _ (a i : ℕ) (A : 0 < a) (top : a < 10 ^ 15) (I : i ≤ 15) where
           pred : (z : ℕ) → z < 53 → z ≤ 52
           pred z h = omega arith
 
-  kept-many : 2 ^ 52 ≤ a * 2 ^ 1074 / u
+  pub kept-many : 2 ^ 52 ≤ a * 2 ^ 1074 / u
   kept-many =
       let z = size (a * 2 ^ 1074 / 10 ^ i) in
       let e : 2 ^ 52 * u ≡ 2 ^ (52 + k) * 10 ^ i = ap (λ (x : ℕ). 2 ^ 52 * x) (mul-comm (10 ^ i) (2 ^ k)) ∙ sym (mul-assoc (2 ^ 52) (2 ^ k) (10 ^ i)) ∙ ap (λ (x : ℕ). x * 10 ^ i) (sym (pow-add 2 52 k)) in
@@ -209,7 +209,7 @@ module _ (a i : ℕ) (A : 0 < a) (top : a < 10 ^ 15) (I : i ≤ 15) where
   kept-few : a * 2 ^ 1074 / u < 2 ^ 53
   kept-few = subst (λ (x : ℕ). x < 2 ^ 53) (native.Mathlib.Nat.div-div-eq-div-mul (a * 2 ^ 1074) (10 ^ i) (2 ^ k)) (lib.Ieee.Fits.kept-lt 53 (a * 2 ^ 1074 / 10 ^ i))
 
-  under : grid binary64 a (10 ^ i) < 2 ^ 2098
+  pub under : grid binary64 a (10 ^ i) < 2 ^ 2098
   under =
       let c : closest (a * 2 ^ 1074) u ≤ 2 ^ 53 = le-trans (nearest-le (a * 2 ^ 1074 / u) (compare (a * 2 ^ 1074 % u * 2) u)) kept-few in
       lt-of-le-of-lt (mul-le-mul c (pow-mono dropped-few)) (lit< tt)
@@ -237,7 +237,7 @@ module _ (a i : ℕ) (A : 0 < a) (top : a < 10 ^ 15) (I : i ≤ 15) where
       )
 
 -- ---- zero
-zero-is : (i : ℕ) → round binary64 false 0 (10 ^ i) ≡ fin false 0 (pos 0)
+pub zero-is : (i : ℕ) → round binary64 false 0 (10 ^ i) ≡ fin false 0 (pos 0)
 zero-is i = round-same binary64 false 0 (10 ^ i) 0 1 (ten-le 0 i zero-le) (le-refl 1) (zero-mul 1 ∙ sym (zero-mul (10 ^ i))) ∙ plain-zero
   where
     plain-zero : round binary64 false 0 1 ≡ fin false 0 (pos 0)
@@ -268,12 +268,15 @@ sized (suc a) i h l =
     let f = finite (suc a) i (zero-lt-suc a) h l in
     record { digits = f .0; exponent = f .1; is = f .2; near = subst (NearestTo (suc a) (10 ^ i)) (f .2) (near (suc a) i (zero-lt-suc a) h l) }
 
-signed : (t : Bool) (a b m : ℕ) (e : ℤ) → round binary64 false a b ≡ fin false m e → round binary64 t a b ≡ fin t m e
+pub signed : (t : Bool) (a b m : ℕ) (e : ℤ) → round binary64 false a b ≡ fin false m e → round binary64 t a b ≡ fin t m e
 signed false a b m e h = h
 signed true a b m e h = sym (neg-round binary64 false a b) ∙ ap neg h ∙ turned
   where
     turned : neg (fin false m e) ≡ fin true m e
     turned = unfold neg in refl
+
+pub nearest-is : (s : Bool) (a b : ℕ) → nearestTo s a b ≡ round binary64 (s && not (eqb a 0)) a b
+nearest-is s a b = unfold nearestTo in refl
 
 -- ---- THE THEOREM: n before the point and v in k digits after it, in at most 15 digits
 pub decimal-nearest : (s : Bool) (n v k : ℕ) → n * 10 ^ k + v < 10 ^ 15 → k ≤ 15 → Nearest s (n * 10 ^ k + v) (10 ^ k) (decimal s n v k)
@@ -284,13 +287,10 @@ decimal-nearest s n v k h l =
     record {
       digits = z .digits;
       exponent = z .exponent;
-      is = by s a (10 ^ k) ∙ e;
-      of-format = subst (λ (x : Float). T (fits binary64 x)) (sym (by s a (10 ^ k))) (round-fits binary64 (s && not (eqb a 0)) a (10 ^ k));
-      nearest = subst (NearestTo a (10 ^ k)) (sym (by s a (10 ^ k) ∙ e)) (z .near);
+      is = nearest-is s a (10 ^ k) ∙ e;
+      of-format = subst (λ (x : Float). T (fits binary64 x)) (sym (nearest-is s a (10 ^ k))) (round-fits binary64 (s && not (eqb a 0)) a (10 ^ k));
+      nearest = subst (NearestTo a (10 ^ k)) (sym (nearest-is s a (10 ^ k) ∙ e)) (z .near);
     }
-  where
-    by : (s : Bool) (a b : ℕ) → nearestTo s a b ≡ round binary64 (s && not (eqb a 0)) a b
-    by s a b = unfold nearestTo in refl
 
 -- ---- and no second float is
 fits-size : (t : Bool) (m : ℕ) (e : ℤ) → T (fits binary64 (fin t m e)) → T (fits binary64 (fin false m e))

@@ -1,6 +1,6 @@
 -- WHAT IS READ OF A TEXT IS THE FLOAT NEAREST TO THE NUMBER THAT STANDS THERE, over the counts w and f of digits allowed. `number-nearest`: where a float is read,
 -- the text starts with a numeral, sign, digits, point and digits, and the float is the one nearest to what they write. `number-read`: every numeral is read, to its
--- end. And raising f changes nothing that was read before: `number-more`.
+-- end. And raising f changes nothing that was read before: `number-more`. What is left is an end of the text: `number-end`.
 -- Assumes nothing.
 use mathlib.Core.Path.{_≡_, refl, sym, ap, _∙_, subst}
 use mathlib.Core.Bool.{Bool, true, false, _&&_, cond, false≢true, and-eq-true-iff}
@@ -26,7 +26,7 @@ use Rattle.wkt.proofs.Nearest.{decimal-nearest}
 digit-few : (b : ℕ) (p q : Bool) → leb b 57 ≡ q → (p && q) ≡ true → b - 48 ≤ 9
 digit-few b p q e h = omega (arith, leb-true b 57 (e ∙ and-eq-true-iff p q .0 h .1))
 
-digits-few : (l : List ℕ) (a : ℕ) → All Digit l → valueOf a l < suc a * 10 ^ length l
+pub digits-few : (l : List ℕ) (a : ℕ) → All Digit l → valueOf a l < suc a * 10 ^ length l
 digits-few [] a h = omega (arith, mul-one (suc a))
 digits-few (b ∷ l) a h =
     let n = length l in
@@ -80,14 +80,14 @@ past-is [] r h e = past-stays r e
 past-is (b ∷ l) r h e = let d = h .0 in rw d (past-is l r (h .1) e)
 
 -- ---- 1 to limit digits were read: the run, and nothing else
-record Ran (limit : ℕ) (t : List ℕ) (v k : ℕ) (u : List ℕ) : Type 0 where
+pub record Ran (limit : ℕ) (t : List ℕ) (v k : ℕ) (u : List ℕ) : Type 0 where
   pub value : v ≡ valueOf 0 (run t)
   pub count : k ≡ length (run t)
   pub rest : u ≡ past t
   pub some : 1 ≤ length (run t)
   pub few : length (run t) ≤ limit
 
-ran : (limit : ℕ) (t : List ℕ) (v k : ℕ) (u : List ℕ) → digitsOf limit t ≡ got (digits v k) u → Ran limit t v k u
+pub ran : (limit : ℕ) (t : List ℕ) (v k : ℕ) (u : List ℕ) → digitsOf limit t ≡ got (digits v k) u → Ran limit t v k u
 unfolding digitsOf
 ran limit t v k u = go (leb 1 (length (run t)) && leb (length (run t)) limit) refl
   where
@@ -238,16 +238,58 @@ number-read w f n t rest h =
     ∙ signed-read w f (n .minus) (n .whole) (pointOf (n .part) ++ rest) (h .digits-before) (h .some-before)
     ∙ unsigned-read w f n t rest h
 
+-- ---- what is left of a text after a number is an end of it: of each kind that the ends of a text share with it
+module _ (P : List ℕ → Type 0) (tail : (b : ℕ) (t : List ℕ) → P (b ∷ t) → P t) where
+  past-end : (t : List ℕ) → P t → P (past t)
+  past-end [] p = p
+  past-end (b ∷ t) p = go (isDigit b) (past-end t (tail b t p))
+    where
+      go : (d : Bool) → P (past t) → P (cond d (past t) (b ∷ t))
+      go true q = q
+      go false q = p
+
+  one-off : (t : List ℕ) → P t → P (drop 1 t)
+  one-off [] p = p
+  one-off (b ∷ t) p = tail b t p
+
+  pub digits-end : (limit : ℕ) (t : List ℕ) (d : Digits) (u : List ℕ) → digitsOf limit t ≡ got d u → P t → P u
+  digits-end limit t (digits v k) u e p = subst P (sym (ran limit t v k u e .rest)) (past-end t p)
+
+  after-end : (b : Bool) (f : ℕ) (s : Bool) (n : ℕ) (t : List ℕ) (x : Float) (rest : List ℕ) → afterWhole b f s n t ≡ got x rest → P t → P rest
+  after-end true f s n t x rest h p = go (digitsOf f (drop 1 t)) refl h
+    where
+      go : (r : Parse Digits) → digitsOf f (drop 1 t) ≡ r → andThen r (withPart s n) ≡ got x rest → P rest
+      go (got (digits v k) z) e h = subst P (sym (same-got (decimal s n v k) x z rest h .1)) (digits-end f (drop 1 t) (digits v k) z e (one-off t p))
+      go wrong e h = absurd (not-got x rest h)
+  after-end false f s n t x rest h p = subst P (sym (same-got (decimal s n 0 0) x t rest h .1)) p
+
+  unsigned-end : (w f : ℕ) (s : Bool) (t : List ℕ) (x : Float) (rest : List ℕ) → unsigned w f s t ≡ got x rest → P t → P rest
+  unfolding unsigned
+  unsigned-end w f s t x rest h p = go (digitsOf w t) refl h
+    where
+      go : (r : Parse Digits) → digitsOf w t ≡ r → andThen r (withWhole f s) ≡ got x rest → P rest
+      go (got (digits n c) u) e h = after-end (starts pointByte u) f s n u x rest h (digits-end w t (digits n c) u e p)
+      go wrong e h = absurd (not-got x rest h)
+
+  pub signless : (s : Bool) (t : List ℕ) → P t → P (cond s (drop 1 t) t)
+  signless true t p = one-off t p
+  signless false t p = p
+
+  pub number-end : (w f : ℕ) (t : List ℕ) (x : Float) (rest : List ℕ) → number w f t ≡ got x rest → P t → P rest
+  unfolding number
+  number-end w f t x rest h p = unsigned-end w f (starts minusByte t) (cond (starts minusByte t) (drop 1 t) t) x rest h (signless (starts minusByte t) t p)
+
 -- ---- more digits allowed after the point: what was read is read as before
-more : (f g : ℕ) → f ≤ g → (t : List ℕ) (d : Digits) (u : List ℕ) → digitsOf f t ≡ got d u → digitsOf g t ≡ got d u
+pub again : (f : ℕ) {g : ℕ} (t : List ℕ) (v k : ℕ) (u : List ℕ) → Ran g t v k u → length (run t) ≤ f → digitsOf f t ≡ got (digits v k) u
 unfolding digitsOf
-more f g l t d u = go (leb 1 (length (run t))) (leb (length (run t)) f) refl refl
-  where
-    go : (a b : Bool) → leb 1 (length (run t)) ≡ a → leb (length (run t)) f ≡ b → cond (a && b) (got (digits (valueOf 0 (run t)) (length (run t))) (past t)) wrong ≡ got d u
-        → cond (a && leb (length (run t)) g) (got (digits (valueOf 0 (run t)) (length (run t))) (past t)) wrong ≡ got d u
-    go true true e i h = rw (le-leb (length (run t)) g (omega (arith, leb-true (length (run t)) f i))) h
-    go true false e i h = absurd (not-got d u h)
-    go false b e i h = absurd (not-got d u h)
+again f t v k u r h =
+    let a = r .value in
+    let b = r .count in
+    let c = r .rest in
+    rw (le-leb 1 (length (run t)) (r .some), le-leb (length (run t)) f h, a, b, c)
+
+more : (f g : ℕ) → f ≤ g → (t : List ℕ) (d : Digits) (u : List ℕ) → digitsOf f t ≡ got d u → digitsOf g t ≡ got d u
+more f g l t (digits v k) u e = let r = ran f t v k u e in again g t v k u r (le-trans (r .few) l)
 
 pub number-more : (w f g : ℕ) → f ≤ g → (t : List ℕ) (x : Float) (rest : List ℕ) → number w f t ≡ got x rest → number w g t ≡ got x rest
 unfolding number unsigned

@@ -1,4 +1,4 @@
--- The text of document 01, "The text program", and of document 02, Q-2, after OGC 06-103r4's Well-Known Text: a POINT M and POLYGONs, each on its line.
+-- The text of document 01, "The text program", and of document 02, Q-2 and Q-7, after OGC 06-103r4's Well-Known Text: a POINT M and POLYGONs, each on its line.
 -- The rules say how many digits a number has, what letters count as, and whether a polygon may be EMPTY (specs/Rules.antt). Definitions only.
 use mathlib.Core.Bool.{Bool, true, false, _&&_, cond}
 use mathlib.Core.List.{List, [], _∷_}

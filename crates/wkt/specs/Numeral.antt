@@ -1,9 +1,10 @@
 -- A number as it is written at the front of a text, whatever reads it. Document 01, "The text program": "optional minus, 1 to 7 digits, optionally a point and
--- 1 to 3 digits"; the two counts are w and f here. Definitions only.
+-- 1 to 3 digits", and to 6 by document 02's Q-7; the two counts are w and f here. Definitions only.
 use mathlib.Core.Path.{_≡_}
 use mathlib.Core.Bool.{Bool, true, false}
+use mathlib.Core.Logic.{_⊎_}
 use mathlib.Core.List.{List, [], _∷_, _++_}
-use Prim.Native.Nat.{ℕ, _+_, _*_, _^_, _≤_}
+use Prim.Native.Nat.{ℕ, _+_, _*_, _^_, _≤_, _<_}
 use lib.ListN.{length}
 use Rattle.lists.specs.Members.{All}
 use Rattle.wkt.specs.Words.{minusIf, pointByte}
@@ -43,3 +44,8 @@ pub record Stands (w f : ℕ) (n : Numeral) (t rest : List ℕ) : Type 0 where
   pub few-after : length (n .part) ≤ f
   pub no-digit : run rest ≡ []
   pub no-point : n .part ≡ [] → starts pointByte rest ≡ false
+
+-- ---- no point of the text has more than f and at most g digits after it
+abbrev pub Unmoved : ℕ → ℕ → List ℕ → Type 0
+Unmoved f g [] = Unit {0}
+Unmoved f g (b ∷ t) = (b ≡ pointByte → (length (run t) ≤ f) ⊎ (g < length (run t))) × Unmoved f g t

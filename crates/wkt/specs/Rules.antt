@@ -1,5 +1,5 @@
 -- HOW A TEXT MAY BE WRITTEN. Document 01 takes words in upper case, and no EMPTY (`former`). Document 02, Q-2 takes letters in either case, and POLYGON EMPTY
--- (`rules`): it is what is read by. The grammar is one, for all rules. Definitions only.
+-- (`rules`): it is what is read by. Q-7 raises the digits after a point from 3 to 6 (specs/Limits.antt). The grammar is one, for all rules. Definitions only.
 use mathlib.Core.Path.{_≡_}
 use mathlib.Core.Bool.{Bool, true, false, _&&_, cond}
 use mathlib.Core.List.{List, map}

@@ -1,4 +1,4 @@
--- Worked texts: document 01's sample line, letters in either case and EMPTY, a ring closed by -0.000, one that is open, numbers that are and are not taken.
+-- Worked texts: document 01's sample line, letters in either case and EMPTY, a ring closed by -0.000000, one that is open, numbers that are and are not taken.
 -- Assumes nothing.
 use mathlib.Core.Path.{_≡_, refl}
 use mathlib.Core.List.{[], _∷_, _++_}
@@ -51,32 +51,41 @@ unfolding number unsigned digitsOf nearestTo measure postLine pair points ring r
 was = refl
 
 -- a space too many, before EMPTY or behind it, EMPTY in brackets, no end of the line
-pub spaced : polygon (rules 7 3) (bytes "POLYGON  EMPTY\n") ∷ polygon (rules 7 3) (bytes "POLYGON EMPTY \n") ∷ polygon (rules 7 3) (bytes "POLYGON (EMPTY)\n") ∷ polygon (rules 7 3) (bytes "POLYGON EMPTY") ∷ [] ≡ wrong ∷ wrong ∷ wrong ∷ wrong ∷ []
+pub spaced : polygon (rules 7 6) (bytes "POLYGON  EMPTY\n") ∷ polygon (rules 7 6) (bytes "POLYGON EMPTY \n") ∷ polygon (rules 7 6) (bytes "POLYGON (EMPTY)\n") ∷ polygon (rules 7 6) (bytes "POLYGON EMPTY") ∷ [] ≡ wrong ∷ wrong ∷ wrong ∷ wrong ∷ []
 unfolding number unsigned digitsOf nearestTo pair points ring ringLine polygon ofBits round eq
 spaced = refl
 
 -- bytes that are one bit off: NUL for the space, H for a bracket, P with its highest bit
-pub bit-off : polygon (rules 7 3) (bytes "POLYGON" ++ (0 ∷ bytes "EMPTY\n")) ∷ polygon (rules 7 3) (bytes "POLYGON HH0 0, 1 0, 1 1, 0 0))\n") ∷ polygon (rules 7 3) (208 ∷ bytes "OLYGON EMPTY\n") ∷ [] ≡ wrong ∷ wrong ∷ wrong ∷ []
+pub bit-off : polygon (rules 7 6) (bytes "POLYGON" ++ (0 ∷ bytes "EMPTY\n")) ∷ polygon (rules 7 6) (bytes "POLYGON HH0 0, 1 0, 1 1, 0 0))\n") ∷ polygon (rules 7 6) (208 ∷ bytes "OLYGON EMPTY\n") ∷ [] ≡ wrong ∷ wrong ∷ wrong ∷ []
 unfolding number unsigned digitsOf nearestTo pair points ring ringLine polygon ofBits round eq
 bit-off = refl
 
-square : polygon (rules 7 3) (bytes "POLYGON ((0 0, 1 0, 1 1, -0.000 0))\n") ≡ got (point zero zero ∷ point one zero ∷ point one one ∷ []) []
+square : polygon (rules 7 6) (bytes "POLYGON ((0 0, 1 0, 1 1, -0.000000 0))\n") ≡ got (point zero zero ∷ point one zero ∷ point one one ∷ []) []
 unfolding number unsigned digitsOf nearestTo pair points ring ringLine polygon ofBits round eq
 square = refl
 
-apart : polygon (rules 7 3) (bytes "POLYGON ((0 0, 1 0, 1 1, 0.001 0))\n") ≡ wrong
+apart : polygon (rules 7 6) (bytes "POLYGON ((0 0, 1 0, 1 1, 0.000001 0))\n") ≡ wrong
 unfolding number unsigned digitsOf nearestTo pair points ring ringLine polygon ofBits round eq
 apart = refl
 
--- -12.5; -0 is plus zero; a plus sign, no digit after the point, none before it, eight digits, four decimals
-negative : number 7 3 (bytes "-12.5 x") ≡ got (ofBits binary64 0xc029_0000_0000_0000) (bytes " x")
+-- -12.5; -0 is plus zero; a plus sign, no digit after the point, none before it, eight digits, seven decimals
+negative : number 7 6 (bytes "-12.5 x") ≡ got (ofBits binary64 0xc029_0000_0000_0000) (bytes " x")
 unfolding number unsigned digitsOf nearestTo ofBits round
 negative = refl
 
-unsigned-zero : number 7 3 (bytes "-0") ≡ got zero []
+unsigned-zero : number 7 6 (bytes "-0") ≡ got zero []
 unfolding number unsigned digitsOf nearestTo ofBits round
 unsigned-zero = refl
 
-not-taken : number 7 3 (bytes "+1") ∷ number 7 3 (bytes "1.") ∷ number 7 3 (bytes ".5") ∷ number 7 3 (bytes "12345678") ∷ number 7 3 (bytes "0.0001") ∷ [] ≡ wrong ∷ wrong ∷ wrong ∷ wrong ∷ wrong ∷ []
+not-taken : number 7 6 (bytes "+1") ∷ number 7 6 (bytes "1.") ∷ number 7 6 (bytes ".5") ∷ number 7 6 (bytes "12345678") ∷ number 7 6 (bytes "0.0000001") ∷ [] ≡ wrong ∷ wrong ∷ wrong ∷ wrong ∷ wrong ∷ []
 unfolding number unsigned digitsOf nearestTo ofBits round
 not-taken = refl
+
+-- six decimals: the float nearest to 0.000001; and four, of which document 01's rules take none
+small : number 7 6 (bytes "0.000001") ≡ got (ofBits binary64 0x3eb0_c6f7_a0b5_ed8d) []
+unfolding number unsigned digitsOf nearestTo ofBits round
+small = refl
+
+four : number 7 6 (bytes "0.0001") ∷ number 7 3 (bytes "0.0001") ∷ [] ≡ got (ofBits binary64 0x3f1a_36e2_eb1c_432d) [] ∷ wrong ∷ []
+unfolding number unsigned digitsOf nearestTo ofBits round
+four = refl

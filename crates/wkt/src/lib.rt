@@ -1,4 +1,4 @@
-// Reading the text program's input: a post and polygons in Well-Known Text (document 01, "The text program"; document 02, Q-2; OGC 06-103r4).
+// Reading the text program's input: a post and polygons in Well-Known Text (document 01, "The text program"; document 02, Q-2 and Q-7; OGC 06-103r4).
 // What a text means stands in specs/Grammar.antt, under the rules of specs/Rules.antt, on lists and without a cursor; here a cursor runs over
 // the bytes once, each point is stored where there is room for it, and all are counted. `read_input` is the one call from outside; printing
 // uses `ten_to` too.
@@ -21,7 +21,7 @@ ghost use Rattle.wkt.specs.Cursor.{headDigit, runSeen, runOn, numberSeen
 // The limits, as specs/Limits.antt names them.
 const WHOLE_DIGITS: usize = 7;
 
-const PART_DIGITS: usize = 3;
+const PART_DIGITS: usize = 6;
 
 const LEAST_RING: usize = 4;
 

@@ -96,7 +96,7 @@ pub ten-small : (p : ℕ) → p ≤ 6 → 10 ^ p ≤ 1000000
 ten-small p h = ten-le p 6 h
 
 -- ---- by the digits of the pattern
-value-closest : (s : Bool) (m : ℕ) (e : ℤ) (n c : ℕ) → HasValue (fin s m e) s n (2 ^ 1074) → closest (m * up e * c) (down e) ≡ closest (n * c) (2 ^ 1074)
+pub value-closest : (s : Bool) (m : ℕ) (e : ℤ) (n c : ℕ) → HasValue (fin s m e) s n (2 ^ 1074) → closest (m * up e * c) (down e) ≡ closest (n * c) (2 ^ 1074)
 value-closest s m e n c h =
     closest-same (m * up e * c) (down e) (n * c) (2 ^ 1074) (down-pos e) (pow-pos 1074)
     (mul-right-comm (m * up e) c (2 ^ 1074) ∙ ap (λ (x : ℕ). x * c) (h .1) ∙ mul-right-comm n (down e) c)

@@ -1,4 +1,4 @@
--- Worked texts: a minus, a zero without one, halves to even, six decimals, document 01's output line, an empty outline, two refusals.
+-- Worked texts: a minus, a zero without one, halves to even, six decimals, document 01's output line with six and with three decimals, an empty outline, two refusals.
 -- Assumes nothing.
 use mathlib.Core.Path.{_≡_, refl}
 use mathlib.Core.Bool.{true, false}
@@ -23,11 +23,15 @@ outline : List Float
 unfolding round
 outline = round binary64 true 1 10 ∷ round binary64 true 0 1 ∷ round binary64 false 1 100000000000000000 ∷ round binary64 true 1 10 ∷ round binary64 false 1 10 ∷ round binary64 false 0 1 ∷ round binary64 false 0 1 ∷ round binary64 false 1 10 ∷ []
 
-line : polygonText 3 (pointsOf outline) ≡ bytes "POLYGON ((-0.100 0.000, 0.000 -0.100, 0.100 0.000, 0.000 0.100, -0.100 0.000))\n"
+line : polygonText 6 (pointsOf outline) ≡ bytes "POLYGON ((-0.100000 0.000000, 0.000000 -0.100000, 0.100000 0.000000, 0.000000 0.100000, -0.100000 0.000000))\n"
 unfolding outline shown scaledOf round lt ofBits
 line = refl
 
-none : polygonText 3 [] ≡ bytes "POLYGON EMPTY\n"
+line-three : polygonText 3 (pointsOf outline) ≡ bytes "POLYGON ((-0.100 0.000, 0.000 -0.100, 0.100 0.000, 0.000 0.100, -0.100 0.000))\n"
+unfolding outline shown scaledOf round lt ofBits
+line-three = refl
+
+none : polygonText 6 [] ≡ bytes "POLYGON EMPTY\n"
 none = refl
 
 refusals : refusedText 9 ∷ refusedText 11 ∷ [] ≡ bytes "REFUSED 9\n" ∷ bytes "REFUSED 11\n" ∷ []

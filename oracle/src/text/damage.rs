@@ -1,6 +1,6 @@
 //! Ways to damage a text. Some leave it as laid out; the reader beside this file decides.
 
-use super::inputs::{self, Text};
+use super::inputs::{self, Text, numbers};
 use super::reader::MOST_BYTES;
 use super::survey::{self, EMPTY};
 use crate::util::rng::SplitMix64;
@@ -105,22 +105,9 @@ fn a_letter(r: &mut SplitMix64, text: &Text) -> Option<usize> {
     one_of(r, places.collect())
 }
 
-fn one_of<T>(r: &mut SplitMix64, mut from: Vec<T>) -> Option<T> {
+pub fn one_of<T>(r: &mut SplitMix64, mut from: Vec<T>) -> Option<T> {
     let n = from.len() as u64;
     (n > 0).then(|| from.swap_remove(r.below(n) as usize))
-}
-
-/// The numbers of a stretch of text.
-fn numbers(text: &[u8], within: Range<usize>) -> Vec<Range<usize>> {
-    let of_number = |i: &usize| text[*i].is_ascii_digit() || b".-".contains(&text[*i]);
-    let mut all: Vec<Range<usize>> = Vec::new();
-    for i in within.filter(of_number) {
-        match all.last_mut() {
-            Some(last) if last.end == i => last.end += 1,
-            _ => all.push(i..i + 1),
-        }
-    }
-    all
 }
 
 /// The lines with their ends.
@@ -130,7 +117,7 @@ fn lines(text: &[u8]) -> Vec<Text> {
 }
 
 /// Where a ring's points stand in the text.
-fn a_ring(r: &mut SplitMix64, text: &Text) -> Option<Range<usize>> {
+pub fn a_ring(r: &mut SplitMix64, text: &Text) -> Option<Range<usize>> {
     let mut rings = Vec::new();
     let mut begin = 0;
     for line in lines(text) {
@@ -144,7 +131,7 @@ fn a_ring(r: &mut SplitMix64, text: &Text) -> Option<Range<usize>> {
     one_of(r, rings)
 }
 
-fn put(text: &mut Text, place: Range<usize>, bytes: &[u8]) {
+pub fn put(text: &mut Text, place: Range<usize>, bytes: &[u8]) {
     text.splice(place, bytes.iter().copied());
 }
 
@@ -339,7 +326,7 @@ fn many_digits(r: &mut SplitMix64, text: &mut Text) {
     } else {
         digits(r, long)
     };
-    let part = r.pick(&[0, 0, 1, 3, 3, 4, 4, 17]);
+    let part = r.pick(&[0, 0, 1, 2, 3, 4, 5, 6, 6, 7, 7, 8, 17]);
     if part > 0 {
         number += ".";
         number += &digits(r, part);
@@ -365,6 +352,11 @@ fn odd_number(r: &mut SplitMix64, text: &mut Text) {
         "-0000000",
         "00000000",
         "0.0000",
+        "0.000000",
+        "0.0000000",
+        "-0.000000",
+        "0000000.000000",
+        "0000000.0000000",
         "1.2.3",
         "1..2",
         "inf",
@@ -375,9 +367,13 @@ fn odd_number(r: &mut SplitMix64, text: &mut Text) {
         ".",
         "9999999.999",
         "-9999999.999",
+        "9999999.999999",
+        "-9999999.999999",
+        "9999999.9999999",
         "1000000",
         "1000000.0",
         "1000000.001",
+        "1000000.000001",
         "1_0",
         "\u{0661}",
         "\u{FF11}",
@@ -419,7 +415,7 @@ fn closing_point(r: &mut SplitMix64, text: &mut Text) {
         0 => whole(&format!("0{size}")),
         1 => format!("{word}0"),
         2 if !size.contains('.') => format!("{word}.0"),
-        3 if !size.contains('.') => format!("{word}.001"),
+        3 if !size.contains('.') => word.clone() + r.pick(&[".001", ".000001"]),
         4 => size.to_string(),
         5 => format!("-{size}"),
         6 => whole(size.trim_end_matches('0').trim_end_matches('.')),
@@ -550,7 +546,8 @@ fn beside(r: &mut SplitMix64, text: &mut Text) {
 fn sized(r: &mut SplitMix64, text: &mut Text, long: usize) {
     let sides = r.pick(&[0, 3, 3, 5, 30, 500]);
     let wide = r.pick(&[1, 3, 7]);
-    let number = |r: &mut SplitMix64| format!("{:0>wide$}", r.below(100));
+    let part = r.pick(&["", "", ".25", ".000001"]);
+    let number = |r: &mut SplitMix64| format!("{:0>wide$}{part}", r.below(100));
     // A line, and the next, as long as they fit.
     loop {
         let mut words: Vec<String> = Vec::new();

@@ -1,12 +1,13 @@
 //! What documents 01 and 02 say that a text is answered with, worked out without our code: the reader and the
-//! printer beside this file, the order of refusals, the Rust's own tables and the Rust's own outline.
+//! printer beside this file, the order of refusals, the Rust's own tables and the Rust's own outline. It is
+//! worked out once and printed with six decimals and with three.
 
 use super::print::{decimal, is_half};
 use super::reader::{self, Read};
 use crate::lent::{Cone, Entries, Rooms};
 use crate::scene::given::Given;
 use crate::scene::is_coordinate;
-use crate::sites::Point;
+use crate::sites::{Point, Ring};
 use crate::view;
 use oracle::Scene;
 use std::f64::consts::TAU;
@@ -38,7 +39,8 @@ const TOLERANCE: f64 = 0.1;
 pub struct Expected {
     /// 0 where it is answered.
     pub number: u32,
-    pub bytes: Vec<u8>,
+    /// The outline and each polygon seen, where it is answered.
+    rings: Vec<Ring>,
     /// The cells of the grid, where it came to one.
     pub cells: usize,
     /// What the Rust's run needed, where it came to one.
@@ -49,8 +51,37 @@ pub struct Run {
     pub needs: Entries,
     pub points: usize,
     pub visible: usize,
-    /// Coordinates that lie half-way between two that can be printed.
-    pub halves: usize,
+}
+
+impl Expected {
+    /// With so many decimals.
+    pub fn printed(&self, places: usize) -> Vec<u8> {
+        if self.number > 0 {
+            return refusal(self.number);
+        }
+        let lines: String = self.rings.iter().map(|ring| line(ring, places)).collect();
+        lines.into_bytes()
+    }
+
+    /// Coordinates that lie half-way between two that can be printed so.
+    pub fn halves(&self, places: usize) -> usize {
+        let all = self.rings.iter().flatten().flat_map(|&(x, y)| [x, y]);
+        all.filter(|&x| is_half(x, places)).count()
+    }
+}
+
+pub fn refusal(number: u32) -> Vec<u8> {
+    format!("REFUSED {number}\n").into_bytes()
+}
+
+/// A closed polygon.
+fn line(ring: &Ring, places: usize) -> String {
+    let point = |&(x, y): &Point| format!("{} {}", decimal(x, places), decimal(y, places));
+    let words: Vec<String> = ring.iter().chain(ring.first()).map(point).collect();
+    if words.is_empty() {
+        return "POLYGON EMPTY\n".to_string();
+    }
+    format!("POLYGON (({}))\n", words.join(", "))
 }
 
 pub fn answer(text: &[u8]) -> Expected {
@@ -63,7 +94,7 @@ pub fn answer(text: &[u8]) -> Expected {
 fn refused(number: u32) -> Expected {
     Expected {
         number,
-        bytes: format!("REFUSED {number}\n").into_bytes(),
+        rings: Vec::new(),
         cells: 0,
         run: None,
     }
@@ -105,7 +136,6 @@ fn shown(scene: &Scene, post: Point, range: f64) -> Expected {
         needs: seen.needs,
         points: seen.outline.len() / 2,
         visible: seen.visible.len(),
-        halves: seen.outline.iter().filter(|&&x| is_half(x)).count(),
     };
     let fits = run.needs.iter().zip(ENTRIES).all(|(&n, k)| n <= k)
         && run.points <= MOST_OUTLINE
@@ -116,26 +146,17 @@ fn shown(scene: &Scene, post: Point, range: f64) -> Expected {
             ..refused(8)
         };
     }
-    let mut lines = polygon(seen.outline.chunks_exact(2).map(|p| (p[0], p[1])));
-    for &id in &seen.visible {
-        lines += &polygon(scene.polygon_vertices(id).iter().map(|v| (v.x, v.y)));
-    }
+    let outline = seen.outline.chunks_exact(2).map(|p| (p[0], p[1])).collect();
+    let polygon = |&id| {
+        let corners = scene.polygon_vertices(id).iter();
+        corners.map(|v| (v.x, v.y)).collect()
+    };
+    let mut rings = vec![outline];
+    rings.extend(seen.visible.iter().map(polygon));
     Expected {
         number: 0,
-        bytes: lines.into_bytes(),
+        rings,
         cells: 0,
         run: Some(run),
     }
-}
-
-/// A closed polygon's line.
-fn polygon(points: impl Iterator<Item = Point>) -> String {
-    let mut words: Vec<String> = points
-        .map(|(x, y)| format!("{} {}", decimal(x), decimal(y)))
-        .collect();
-    let Some(first) = words.first().cloned() else {
-        return "POLYGON EMPTY\n".to_string();
-    };
-    words.push(first);
-    format!("POLYGON (({}))\n", words.join(", "))
 }

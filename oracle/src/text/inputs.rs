@@ -1,11 +1,14 @@
-//! Texts as laid out, in named groups: sites of all kinds, and ones that come to each refusal but 9.
+//! Texts as laid out, in named groups: sites of all kinds, and ones that come to each refusal, to 9 by their
+//! length alone.
 
 use super::expected::{self, MOST_POINTS, MOST_POLYGONS};
+use super::reader::MOST_BYTES;
 use crate::sites::{self, Plan, Point, Ring};
 use crate::util::rng::SplitMix64;
 use crate::view;
 use oracle::Vec2;
 use std::f64::consts::TAU;
+use std::ops::Range;
 
 pub type Text = Vec<u8>;
 
@@ -51,8 +54,8 @@ pub fn groups() -> Vec<Group> {
         tips,
     );
     add(
-        "the longest text of 64 polygons and 512 points",
-        100,
+        "64 polygons and 512 points in 16,383 bytes or more",
+        200,
         longest,
     );
     add("saws whose teeth alone are in range", 400, saws);
@@ -62,6 +65,19 @@ pub fn groups() -> Vec<Group> {
         halves,
     );
     add("several faults at once", 1_000, faults);
+    all
+}
+
+/// The numbers of a stretch of text.
+pub fn numbers(text: &[u8], within: Range<usize>) -> Vec<Range<usize>> {
+    let of_number = |i: &usize| text[*i].is_ascii_digit() || b".-".contains(&text[*i]);
+    let mut all: Vec<Range<usize>> = Vec::new();
+    for i in within.filter(of_number) {
+        match all.last_mut() {
+            Some(last) if last.end == i => last.end += 1,
+            _ => all.push(i..i + 1),
+        }
+    }
     all
 }
 
@@ -79,7 +95,7 @@ struct Style {
 impl Style {
     fn any(r: &mut SplitMix64) -> Self {
         Self {
-            decimals: r.below(4) as usize,
+            decimals: r.below(7) as usize,
             odd: r.below(2) == 0,
         }
     }
@@ -103,7 +119,7 @@ impl Style {
         let zero = size.bytes().all(|b| b == b'0' || b == b'.');
         let minus = if zero { r.pick(&["", "-"]) } else { minus };
         let long = r.pick(&[1, 1, 1, 3, 7]);
-        let behind = r.pick(&[0, part.len(), 3]);
+        let behind = r.pick(&[0, part.len(), 3, 5, 6]);
         let part = part.trim_end_matches('0');
         let point = if part.is_empty() && behind == 0 {
             ""
@@ -126,7 +142,7 @@ impl Style {
 
     fn text(self, r: &mut SplitMix64, post: Point, range: f64, rings: &[Ring]) -> Text {
         let at = Self {
-            decimals: 3,
+            decimals: 6,
             ..self
         };
         let (post, range) = (at.point(r, post), at.number(r, range));
@@ -186,7 +202,7 @@ fn post(r: &mut SplitMix64, plan: &Plan) -> Point {
     for _ in 0..tries {
         let kind = first + r.below(12 - first);
         let (x, y) = view::post(r, &scene, kind);
-        let off = r.pick(&[0.0, 0.0, 0.001, -0.001]);
+        let off = r.pick(&[0.0, 0.0, 0.001, -0.001, 0.000_001, -0.000_001]);
         at = ((x + off).clamp(-1e6, 1e6), y.clamp(-1e6, 1e6));
         if scene.polygon_at(Vec2::new(at.0, at.1)).is_none() {
             break;
@@ -198,7 +214,7 @@ fn post(r: &mut SplitMix64, plan: &Plan) -> Point {
 fn range(r: &mut SplitMix64) -> f64 {
     let (small, wide) = (r.between(0.5, 60.0), r.between(60.0, 3_000.0));
     let any = r.between(0.0, 1e6);
-    let odd = r.pick(&[0.0, 0.001, 1e6, 1e-9, -1.0, -9_999_999.999]);
+    let odd = r.pick(&[0.0, 0.001, 0.000_001, 1e6, 1e-9, -1.0, -9_999_999.999]);
     r.pick(&[small, small, small, wide, wide, 100.0, 10.0, any, odd])
 }
 
@@ -287,16 +303,19 @@ fn far(r: &mut SplitMix64) -> f64 {
         * r.pick(&[
             1e6,
             1_000_000.001,
+            1_000_000.000_001,
             1_000_001.0,
             9_999_999.999,
+            9_999_999.999_999,
             999_999.999,
+            999_999.999_999,
             any,
         ])
 }
 
 fn outside(r: &mut SplitMix64) -> Text {
     let style = Style {
-        decimals: 3,
+        decimals: 6,
         ..Style::any(r)
     };
     let mut plan = cut(school(r), style);
@@ -507,16 +526,20 @@ fn tips(r: &mut SplitMix64) -> Text {
     style.text(r, (0.0, 0.0), range, &plan.rings)
 }
 
-/// Two edges in whole numbers that cross at sixteenths, turned and mirrored.
+/// Two edges that cross half-way between two decimals: at sixteenths for three decimals, at 128ths for
+/// six. Turned and mirrored; moved by whole numbers, or by sixteenths, where corners too lie half-way.
 fn halves(r: &mut SplitMix64) -> Text {
+    let (decimals, parts) = r.pick(&[(0, 1), (4, 16)]);
     let style = Style {
-        decimals: 0,
+        decimals,
         ..Style::any(r)
     };
     let (rise, at) = (r.pick(&[1.0, 3.0, 5.0, 7.0]), r.pick(&[9.0, 11.0, 13.0]));
-    let long = vec![(0.0, 0.0), (16.0, rise), (8.0, rise + 9.0)];
+    let wide = r.pick(&[16.0, 128.0]);
+    let long = vec![(0.0, 0.0), (wide, rise), (wide / 2.0, rise + 9.0)];
     let upright = vec![(at, -5.0), (at + 3.0, -4.0), (at, 11.0)];
-    let by = (r.whole(-50, 50) as f64, r.whole(-50, 50) as f64);
+    let by = |r: &mut SplitMix64| r.whole(-50 * parts, 50 * parts) as f64 / parts as f64;
+    let by = (by(r), by(r));
     let (over, up, swap) = (r.sign(), r.sign(), r.below(2) == 0);
     let place = |(x, y): Point| {
         let (x, y) = if swap { (y, x) } else { (x, y) };
@@ -552,12 +575,13 @@ fn saws(r: &mut SplitMix64) -> Text {
     style.text(r, (30.0, 30.0), 19.0, &rings)
 }
 
-/// Every number of 12 characters, the range at times of 11: at most 16,305 bytes, fewer than a text may have.
+/// Every number of 15 characters, the range at times of 14: 19,770 or 19,769 bytes. From most of them zeros
+/// are taken away in front, so that the text has just as many bytes as it may have, or one less or more.
 fn longest(r: &mut SplitMix64) -> Text {
-    let number = |x: f64| format!("-{x:011.3}");
+    let number = |x: f64| format!("-{x:014.6}");
     let near = r.between(0.0, 10.0);
     let (range, size) = (r.pick(&["", "-"]), r.between(0.0, 9.0));
-    let mut text = format!("POINT M ({0} {0} {range}{size:011.3})\n", number(near));
+    let mut text = format!("POINT M ({0} {0} {range}{size:014.6})\n", number(near));
     for _ in 0..MOST_POLYGONS {
         let at = (r.between(2.0, 28.0), r.between(2.0, 28.0));
         let ring = star(at, 1.0, (MOST_POINTS / MOST_POLYGONS) as u64, 1);
@@ -565,14 +589,29 @@ fn longest(r: &mut SplitMix64) -> Text {
         let words: Vec<String> = ring.iter().chain(ring.first()).map(word).collect();
         text += &format!("POLYGON (({}))\n", words.join(", "));
     }
-    assert_eq!(text.len(), 16_304 + range.len());
-    text.into_bytes()
+    assert_eq!(text.len(), 19_769 + range.len());
+    let long = r.pick(&[
+        MOST_BYTES - 1,
+        MOST_BYTES,
+        MOST_BYTES,
+        MOST_BYTES + 1,
+        19_770,
+    ]);
+    let mut text = text.into_bytes();
+    // From the last, so that places stay true.
+    for place in numbers(&text, 0..text.len()).into_iter().rev() {
+        let from = place.start + usize::from(text[place.start] == b'-');
+        let zeros = text[from..place.end - 8].iter().take_while(|&&b| b == b'0');
+        let many = zeros.count().min(text.len().saturating_sub(long));
+        text.drain(from..from + many);
+    }
+    text
 }
 
 /// The first of the order must answer.
 fn faults(r: &mut SplitMix64) -> Text {
     let style = Style {
-        decimals: 3,
+        decimals: 6,
         ..Style::any(r)
     };
     let polygons = r.pick(&[3, 30, 64, 65]);

@@ -1,6 +1,6 @@
 //! A text read line by line, straight from the words of document 01, "The text program", and of document
-//! 02, Q-2: split at LF, at comma and space, and at spaces, with keywords in any mix of cases. It shares
-//! nothing with our reader, which runs a cursor over bytes.
+//! 02, Q-2 and Q-7: split at LF, at comma and space, and at spaces, with keywords in any mix of cases and
+//! up to six decimals. It shares nothing with our reader, which runs a cursor over bytes.
 
 use crate::sites::{Plan, Point, Ring};
 
@@ -73,7 +73,7 @@ fn number(word: &str) -> Option<f64> {
     let digits = |s: &str, most: usize| {
         (1..=most).contains(&s.len()) && s.bytes().all(|b| b.is_ascii_digit())
     };
-    let laid_out = digits(whole, 7) && part.is_none_or(|p| digits(p, 3));
+    let laid_out = digits(whole, 7) && part.is_none_or(|p| digits(p, 6));
     let value = || word.parse::<f64>().expect("a decimal number");
     laid_out.then(|| value() + 0.0)
 }

@@ -5,7 +5,7 @@
 use super::expected::{self, MOST_POLYGONS};
 use super::inputs::Text;
 use super::reader::MOST_BYTES;
-use super::{Counts, WORKED_OUT, counts_table, hash, hold, ours};
+use super::{Both, Counts, SIX, counts_table, hash, ours};
 use crate::util::rng::SplitMix64;
 use crate::util::table::{Table, count};
 use crate::util::tally::Tally;
@@ -165,7 +165,7 @@ fn over(text: &[u8]) -> u32 {
 const EACH: usize = 2;
 
 pub struct Survey {
-    pub worked_out: Tally,
+    pub worked_out: Both,
     pub capitals: Tally,
     pub over: Tally,
     counts: [Counts; MANY.len()],
@@ -183,7 +183,7 @@ impl Survey {
     pub fn new() -> Self {
         let what = "answer to mixed case and EMPTY lines";
         Self {
-            worked_out: Tally::new([what, WORKED_OUT]),
+            worked_out: Both::new([what, "answer_three to mixed case and EMPTY lines"]),
             capitals: Tally::new([what, "the answer to capitals without them"]),
             over: Tally::new([
                 "the same, over a limit by EMPTY lines alone",
@@ -209,14 +209,13 @@ impl Survey {
             self.counts[which].add(&expected);
             self.different += u64::from(asked.insert(hash(&text)));
             self.count(&text, expected.number == 0);
-            let room = expected.bytes.len() + r.below(9) as usize;
-            hold(&mut self.worked_out, &text, &expected.bytes, room);
+            self.worked_out.hold(r, &text, &expected);
             let number = over(&text);
             if number == over(capitals) {
-                hold(&mut self.capitals, &text, &like, like.len());
+                SIX.hold(&mut self.capitals, &text, &like, like.len());
             } else {
-                let refusal = format!("REFUSED {number}\n").into_bytes();
-                hold(&mut self.over, &text, &refusal, refusal.len());
+                let refusal = expected::refusal(number);
+                SIX.hold(&mut self.over, &text, &refusal, refusal.len());
             }
         }
     }

@@ -54,13 +54,13 @@ same-length : tie.Need-same-length
 same-length c = search needs
 
 returns : tie.Need-returns
-returns c = tell (read-way _ _ _ _ _ _ (c .before .before .before .before .before .before .before .before .before .before .before .before .before .read-input .ensures) _ _ _ _ _ (c .before .before .before .before .before .before .before .before .before .x .given .1) (le-of-eq (slice-aggregate-read-input (c .before .before .before .before .before .before .before .before .before .before .before .before .before .before .before))) (le-of-eq (slice-aggregate-read-input-2 (c .before .before .before .before .before .before .before .before .before .before .before .before .before .before)))) (c .before .before .print-plan .ensures)
+returns c = tell (read-way _ _ _ _ _ _ (c .before .before .before .before .before .before .before .before .before .before .before .before .before .read-input .ensures) _ _ _ _ _ (c .before .before .before .before .before .before .before .before .before .x .given .1) _ (le-of-eq (slice-aggregate-read-input (c .before .before .before .before .before .before .before .before .before .before .before .before .before .before .before))) (le-of-eq (slice-aggregate-read-input-2 (c .before .before .before .before .before .before .before .before .before .before .before .before .before .before)))) (c .before .before .print-plan .ensures)
 
 same-length-2 : tie.Need-same-length-2
 same-length-2 c = search needs
 
 returns-2 : tie.Need-returns-2
-returns-2 c = answer-refused _ _ _ _ _ _ (c .before .before .before .before .before .before .before .before .before .read-input .ensures) _ (c .before .before .before .before .before .n .given .1) (c .before .before .print-refused .ensures)
+returns-2 c = answer-refused _ _ _ _ _ _ (c .before .before .before .before .before .before .before .before .before .read-input .ensures) _ _ (c .before .before .before .before .before .n .given .1) (c .before .before .print-refused .ensures)
 
 pub print-answer-spec : {M : Type 1} → statement M
 print-answer-spec =

@@ -36,13 +36,13 @@ part-print-visible-end : tie.Need-part-print-visible-end
 part-print-visible-end c = search needs
 
 print-visible-requires : tie.Need-print-visible-requires
-print-visible-requires c κs = record { points-few = c .before .before .before .before .before .before .before .before .before .before .before .before .before .before .pre .0; ids-few = search needs; at-few = let e = c .before .before .before .before .print-polygon .ensures .next in let X = part 0 (c .before .before .before .before .before .before .before .before .numbers-of .result) (c .before .before .before .before .before .before .before .before .before .before .before .before .before .before .args .outline .now) in omega (arith, e, outline-length X (le-trans (part-few 0 (c .before .before .before .before .before .before .before .before .numbers-of .result) (c .before .before .before .before .before .before .before .before .before .before .before .before .before .before .args .outline .now)) (c .before .before .before .before .before .before .before .before .before .before .before .before .before .before .pre .1))) }
+print-visible-requires c κs = record { places-few = c .before .before .before .before .before .before .before .before .before .before .before .before .before .before .pre .3; points-few = c .before .before .before .before .before .before .before .before .before .before .before .before .before .before .pre .0; ids-few = search needs; at-few = let e = c .before .before .before .before .print-polygon .ensures .next in let X = part 0 (c .before .before .before .before .before .before .before .before .numbers-of .result) (c .before .before .before .before .before .before .before .before .before .before .before .before .before .before .args .outline .now) in let q = c .before .before .before .before .before .before .before .before .before .before .before .before .before .before .pre .3 in omega (arith, e, q, outline-length (c .before .before .before .before .before .before .before .before .before .before .before .before .before .before .args .places) X (le-trans (part-few 0 (c .before .before .before .before .before .before .before .before .numbers-of .result) (c .before .before .before .before .before .before .before .before .before .before .before .before .before .before .args .outline .now)) (c .before .before .before .before .before .before .before .before .before .before .before .before .before .before .pre .1))) }
 
 same-length : tie.Need-same-length
 same-length c = search needs
 
 returns : tie.Need-returns
-returns c = seen-way (c .before .before .before .before .before .before .before .before .before .before .before .before .before .before .before .before .before .args .n) (c .before .before .before .before .before .before .before .before .before .before .before .before .before .before .before .before .before .args .m) (c .before .before .before .before .before .before .before .before .before .before .before .before .before .before .before .before .before .args .points .now) (c .before .before .before .before .before .before .before .before .before .before .before .before .before .before .before .before .before .args .polygons .now) (c .before .before .before .before .before .before .before .before .before .before .before .before .before .before .before .before .before .args .outline .now) (c .before .before .before .before .before .before .before .before .before .before .before .before .before .before .before .before .before .args .visible .now) (c .before .before .before .before .before .before .before .before .before .before .before .numbers-of .result) (c .before .before .before .before .before .before .before .before .before .before .least .result) (c .before .before .before .before .before .before .before .before .before .before .before .numbers-of .ensures) (c .before .before .before .before .before .before .before .before .before .before .least .ensures) (c .before .before .before .before .before .before .before .print-polygon .ensures) (c .before .before .print-visible .ensures)
+returns c = seen-way (c .before .before .before .before .before .before .before .before .before .before .before .before .before .before .before .before .before .args .places) (c .before .before .before .before .before .before .before .before .before .before .before .before .before .before .before .before .before .args .n) (c .before .before .before .before .before .before .before .before .before .before .before .before .before .before .before .before .before .args .m) (c .before .before .before .before .before .before .before .before .before .before .before .before .before .before .before .before .before .args .points .now) (c .before .before .before .before .before .before .before .before .before .before .before .before .before .before .before .before .before .args .polygons .now) (c .before .before .before .before .before .before .before .before .before .before .before .before .before .before .before .before .before .args .outline .now) (c .before .before .before .before .before .before .before .before .before .before .before .before .before .before .before .before .before .args .visible .now) (c .before .before .before .before .before .before .before .before .before .before .before .numbers-of .result) (c .before .before .before .before .before .before .before .before .before .before .least .result) (c .before .before .before .before .before .before .before .before .before .before .before .numbers-of .ensures) (c .before .before .before .before .before .before .before .before .before .before .least .ensures) (c .before .before .before .before .before .before .before .print-polygon .ensures) (c .before .before .print-visible .ensures)
 
 pub print-seen-spec : {M : Type 1} → statement M
 print-seen-spec =

@@ -11,10 +11,10 @@ use Rattle.planner.proofs.print_visible.Statement.{statement}
 use Rattle.planner.proofs.print_visible.Tie as tie
 
 abbrev Inv-loop : tie.InvT-loop
-Inv-loop points polygons ids out₀ at i₀ j₀ out i j = Left out₀ at (linesOf points polygons ids) out j (linesOf points polygons (drop i ids)) × (i ≤ length ids) × (length out ≡ length out₀)
+Inv-loop points polygons ids out₀ at places i₀ j₀ out i j = Left out₀ at (linesOf places points polygons ids) out j (linesOf places points polygons (drop i ids)) × (i ≤ length ids) × (length out ≡ length out₀)
 
 abbrev μ-loop : tie.MeasureT-loop
-μ-loop points polygons ids out₀ at i₀ j₀ out i j = length ids - i
+μ-loop points polygons ids out₀ at places i₀ j₀ out i j = length ids - i
 
 loop-holds : tie.Need-loop-holds Inv-loop μ-loop
 loop-holds c = (left-start _ _ _, omega arith, refl)
@@ -26,7 +26,7 @@ shared-slice-read-print-stored : tie.Need-shared-slice-read-print-stored Inv-loo
 shared-slice-read-print-stored c = search needs
 
 print-stored-requires : tie.Need-print-stored-requires Inv-loop μ-loop
-print-stored-requires c κs = (c .before .before .before .before .before .before .before .before .pre .points-few, omega (arith, left-place (c .before .before .before .loop .inv .0), lines-room (c .before .before .before .before .before .before .before .before .args .points .now) (c .before .before .before .before .before .before .before .before .args .polygons .now) (c .before .before .before .before .before .before .before .before .pre .points-few) (c .before .before .before .before .before .before .before .before .args .ids .now) (c .before .before .before .before .before .before .before .before .pre .ids-few), c .before .before .before .before .before .before .before .before .pre .at-few))
+print-stored-requires c κs = (c .before .before .before .before .before .before .before .before .pre .points-few, omega (arith, left-place (c .before .before .before .loop .inv .0), lines-room (c .before .before .before .before .before .before .before .before .args .places) (c .before .before .before .before .before .before .before .before .args .points .now) (c .before .before .before .before .before .before .before .before .args .polygons .now) (c .before .before .before .before .before .before .before .before .pre .points-few) (c .before .before .before .before .before .before .before .before .args .ids .now) (c .before .before .before .before .before .before .before .before .pre .ids-few), c .before .before .before .before .before .before .before .before .pre .at-few, c .before .before .before .before .before .before .before .before .pre .places-few), c .before .before .before .before .before .before .before .before .pre .places-few)
 
 add-i : tie.Need-add-i Inv-loop μ-loop
 add-i c = search needs
@@ -35,13 +35,13 @@ loop-less : tie.Need-loop-less Inv-loop μ-loop
 loop-less c = search needs
 
 loop-again : tie.Need-loop-again Inv-loop μ-loop
-loop-again c = (left-more (c .before .before .before .before .before .before .loop .inv .0) (linesOf (c .before .before .before .before .before .before .before .before .before .before .before .args .points .now) (c .before .before .before .before .before .before .before .before .before .before .before .args .polygons .now) (drop (c .before .before .before .before .before .before .loop .i + 1) (c .before .before .before .before .before .before .before .before .before .before .before .args .ids .now))) (lines-next (c .before .before .before .before .before .before .before .before .before .before .before .args .points .now) (c .before .before .before .before .before .before .before .before .before .before .before .args .polygons .now) (c .before .before .before .before .before .before .before .before .before .before .before .args .ids .now) (c .before .before .before .before .before .before .loop .i) (omega arith)) (c .before .before .print-stored .ensures), omega arith, c .before .before .print-stored .kept .1 .1 .1 .0 ∙ c .before .before .before .before .before .before .loop .inv .2)
+loop-again c = (left-more (c .before .before .before .before .before .before .loop .inv .0) (linesOf (c .before .before .before .before .before .before .before .before .before .before .before .args .places) (c .before .before .before .before .before .before .before .before .before .before .before .args .points .now) (c .before .before .before .before .before .before .before .before .before .before .before .args .polygons .now) (drop (c .before .before .before .before .before .before .loop .i + 1) (c .before .before .before .before .before .before .before .before .before .before .before .args .ids .now))) (lines-next (c .before .before .before .before .before .before .before .before .before .before .before .args .places) (c .before .before .before .before .before .before .before .before .before .before .before .args .points .now) (c .before .before .before .before .before .before .before .before .before .before .before .args .polygons .now) (c .before .before .before .before .before .before .before .before .before .before .before .args .ids .now) (c .before .before .before .before .before .before .loop .i) (omega arith)) (c .before .before .print-stored .ensures), omega arith, c .before .before .print-stored .kept .1 .1 .1 .0 ∙ c .before .before .before .before .before .before .loop .inv .2)
 
 same-length : tie.Need-same-length Inv-loop μ-loop
 same-length c = c .before .loop .inv .2
 
 returns : tie.Need-returns Inv-loop μ-loop
-returns c = left-done (c .before .loop .inv .0) (lines-end (c .before .before .before .before .before .before .args .points .now) (c .before .before .before .before .before .before .args .polygons .now) (c .before .before .before .before .before .before .args .ids .now) (c .before .loop .i) (omega arith))
+returns c = left-done (c .before .loop .inv .0) (lines-end (c .before .before .before .before .before .before .args .places) (c .before .before .before .before .before .before .args .points .now) (c .before .before .before .before .before .before .args .polygons .now) (c .before .before .before .before .before .before .args .ids .now) (c .before .loop .i) (omega arith))
 
 pub print-visible-spec : {M : Type 1} → statement M
 print-visible-spec =

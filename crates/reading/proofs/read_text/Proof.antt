@@ -4,8 +4,8 @@ use Prim.Native.Nat.{_≤_}
 use lib.ListN.{length}
 use borrow.Author.Needs.{needs}
 use native.Mathlib.Omega.{arith}
-use Rattle.plan.proofs.read_text.Statement.{statement}
-use Rattle.plan.proofs.read_text.Tie as tie
+use Rattle.reading.proofs.read_text.Statement.{statement}
+use Rattle.reading.proofs.read_text.Tie as tie
 
 abbrev Inv-loop : tie.InvT-loop
 Inv-loop text₀ most n₀ left₀ text n left = (n ≤ length text) × (length text ≡ length text₀) × (most ≡ length text₀)
