@@ -2,12 +2,12 @@
 -- Assumes nothing.
 use mathlib.Core.Path.{_≡_, refl, sym, ap, _∙_, subst}
 use mathlib.Core.Bool.{Bool, not, _&&_}
-use mathlib.Core.List.{List, [], _∷_, _++_, append-assoc}
-use Prim.Native.Nat.{ℕ, _+_, _-_, _*_, _/_, _%_, _^_, _≤_, _<_}
-use native.Mathlib.Nat.{add-zero}
+use mathlib.Core.List.{List, [], _∷_, _++_, append-assoc, append-nil}
+use Prim.Native.Nat.{ℕ, suc, _+_, _-_, _*_, _/_, _%_, _^_, _≤_, _<_}
+use native.Mathlib.Nat.{add-zero, pow-suc, lt-of-lt-of-le, le-of-eq}
 use native.Mathlib.Omega.{arith}
 use lib.ListN.{length, set, getD, drop, length-append, length-drop}
-use lib.Seq.{sets}
+use lib.Seq.{sets, set-comm}
 use lib.Dec.{eqb}
 use lib.Ieee.{Float, nan, lt, ofBits, binary64}
 use Rattle.lists.proofs.Parts.{drop-here}
@@ -16,6 +16,7 @@ use Rattle.wkt.specs.Words.{minusIf, comma, ringWord, ringEnd, emptyLine}
 use Rattle.wkt.specs.Grammar.{point}
 use Rattle.wkt_print.specs.Decimal.{scaledOf, fixed, wholeText, shown, Printed}
 use Rattle.wkt_print.specs.Lines.{pointsOf, pointText, listText, polygonText}
+use Rattle.wkt_print.proofs.Widths.{fixed-last, length-fixed}
 
 module _ {l l1 : List ℕ} {at i : ℕ} where
   pub then : {l2 : List ℕ} {j : ℕ} {a b : List ℕ} → Printed l at a l1 i → Printed l1 i b l2 j → Printed l at (a ++ b) l2 j
@@ -92,3 +93,43 @@ pub polygon-some : (places : ℕ) (l : List Float) → 2 ≤ length l
 polygon-some places [] h = absurd (omega arith)
 polygon-some places (x ∷ []) h = absurd (omega arith)
 polygon-some places (x ∷ y ∷ l) h = refl
+
+-- ---- digits, from the last one on: a byte stored in front of what was stored already
+set-before : (l : List ℕ) (i j b : ℕ) (vs : List ℕ) → i < j → set (sets l j vs) i b ≡ sets (set l i b) j vs
+set-before l i j b [] h = refl
+set-before l i j b (v ∷ vs) h = set-before (set l j v) i (suc j) b vs (omega arith) ∙ ap (λ (z : List ℕ). sets z (suc j) vs) (set-comm l j i v b (λ e. omega arith))
+
+-- the digits of n behind its first j are written, and m has those that are left
+pub record Behind (l₀ : List ℕ) (at k n : ℕ) (l : List ℕ) (m j : ℕ) : Type 0 where
+  pub written : List ℕ
+  pub digits : fixed k n ≡ fixed j m ++ written
+  pub text : l ≡ sets l₀ (at + j) written
+  pub few : m < 10 ^ j
+
+pub behind-start : (l : List ℕ) (at k n : ℕ) → n < 10 ^ k → Behind l at k n l n k
+behind-start l at k n h = record { written = []; digits = sym (append-nil (fixed k n)); text = refl; few = h }
+
+pub behind-more : {l₀ l l' : List ℕ} {at k n m j : ℕ} → Behind l₀ at k n l m j → 0 < j → l' ≡ set l (at + (j - 1)) (48 + m % 10) → Behind l₀ at k n l' (m / 10) (j - 1)
+behind-more {l₀} {l} {l'} {at} {k} {n} {m} {j} b h e =
+    let i = j - 1 in
+    let s : j ≡ suc i = omega arith in
+    let d = 48 + m % 10 in
+    let w = b .written in
+    let f : m < 10 ^ suc i = subst (λ (x : ℕ). m < 10 ^ x) s (b .few) in
+    let t : at + j ≡ suc (at + i) = omega arith in
+    let g : m < 10 ^ i * 10 = lt-of-lt-of-le f (le-of-eq (pow-suc 10 i)) in
+    record {
+      written = d ∷ w;
+      digits = b .digits ∙ ap (λ (x : ℕ). fixed x m ++ w) s ∙ ap (λ (x : List ℕ). x ++ w) (fixed-last i m f) ∙ append-assoc (fixed i (m / 10)) (d ∷ []) w;
+      text = e ∙ ap (λ (x : List ℕ). set x (at + i) d) (b .text ∙ ap (λ (x : ℕ). sets l₀ x w) t) ∙ set-before l₀ (at + i) (suc (at + i)) d w (omega arith);
+      few = omega arith;
+    }
+
+pub behind-done : {l₀ l : List ℕ} {at k n m j : ℕ} → Behind l₀ at k n l m j → j ≤ 0 → Printed l₀ at (fixed k n) l (at + k)
+behind-done {l₀} {l} {at} {k} {n} {m} {j} b h =
+    let z : j ≡ 0 = omega arith in
+    let w = b .written in
+    record {
+      text = b .text ∙ ap (λ (x : ℕ). sets l₀ (at + x) w) z ∙ ap (λ (x : ℕ). sets l₀ x w) (add-zero at) ∙ ap (sets l₀ at) (sym (b .digits ∙ ap (λ (x : ℕ). fixed x m ++ w) z));
+      next = ap (λ (x : ℕ). at + x) (sym (length-fixed k n));
+    }

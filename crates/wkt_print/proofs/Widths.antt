@@ -2,11 +2,12 @@
 -- Assumes nothing.
 use mathlib.Core.Path.{_≡_, refl, sym, ap, _∙_, subst}
 use mathlib.Core.Bool.{Bool, true, false, cond}
-use mathlib.Core.List.{[], _∷_}
-use Prim.Native.Nat.{ℕ, zero, suc, _+_, _-_, _/_, _%_, _^_, _≤_, _<_}
-use native.Mathlib.Nat.{pow-suc, mul-comm, div-lt-iff-lt-mul, lt-of-lt-of-le, lt-of-not-le, lt-irrefl, le-of-eq}
+use mathlib.Core.List.{List, [], _∷_, _++_}
+use Prim.Native.Nat.{ℕ, zero, suc, _+_, _-_, _*_, _/_, _%_, _^_, _≤_, _<_}
+use native.Mathlib.Nat.{pow-suc, mul-comm, div-one, div-div-eq-div-mul, mod-lt, div-lt-iff-lt-mul, lt-of-lt-of-le, lt-of-not-le, lt-irrefl, le-of-eq}
 use native.Mathlib.Numerals.{add-one}
 use native.Mathlib.Omega.{arith}
+use lib.Arith.{mod-mul}
 use lib.ListN.{length}
 use lib.Dec.{ltb}
 use borrow.Author.Tests.{lt-ltb, le-ltb, ltb-false}
@@ -54,15 +55,21 @@ digit-low j m h g =
     let e : j ≡ suc (j - 1) = omega arith in
     div-lt-iff-lt-mul {k = 10 ^ (j - 1)} (ten-pos (j - 1)) .1 (lt-of-lt-of-le (subst (λ (x : ℕ). m < 10 ^ x) e g) (le-of-eq (pow-suc 10 (j - 1) ∙ mul-comm (10 ^ (j - 1)) 10)))
 
-pub fixed-next : (j m p : ℕ) → 0 < j → p ≡ 10 ^ (j - 1) → fixed j m ≡ (48 + m / p) ∷ fixed (j - 1) (m % p)
-fixed-next j m p h t =
-    let e : j ≡ suc (j - 1) = omega arith in
-    ap (λ (x : ℕ). fixed x m) e ∙ ap (λ (x : ℕ). (48 + m / x) ∷ fixed (j - 1) (m % x)) (sym t)
-
-pub fixed-end : (j m : ℕ) → j ≤ 0 → fixed j m ≡ []
-fixed-end j m h =
-    let e : j ≡ 0 = omega arith in
-    ap (λ (x : ℕ). fixed x m) e
+-- the last digit stands behind those of a tenth
+pub fixed-last : (j m : ℕ) → m < 10 ^ suc j → fixed (suc j) m ≡ fixed j (m / 10) ++ ((48 + m % 10) ∷ [])
+fixed-last zero m h =
+    let e : m / 10 ^ 0 ≡ m % 10 = div-one m ∙ omega arith in
+    ap (λ (x : ℕ). (48 + x) ∷ []) e
+fixed-last (suc j) m h =
+    let x = m % 10 ^ suc j in
+    let p : 10 ^ suc j ≡ 10 ^ j * 10 = pow-suc 10 j in
+    let s : x ≡ m / 10 % 10 ^ j * 10 + m % 10 = ap (λ (z : ℕ). m % z) p ∙ mod-mul m (ten-pos j) (omega arith) in
+    let t : x / 10 ≡ m / 10 % 10 ^ j = omega arith in
+    let u : x % 10 ≡ m % 10 = omega arith in
+    let d : m / 10 ^ suc j ≡ m / 10 / 10 ^ j = ap (λ (z : ℕ). m / z) (p ∙ mul-comm (10 ^ j) 10) ∙ sym (div-div-eq-div-mul m 10 (10 ^ j)) in
+    ap (λ (z : ℕ). (48 + z) ∷ fixed (suc j) x) d
+    ∙ ap (λ (l : List ℕ). (48 + m / 10 / 10 ^ j) ∷ l)
+    (fixed-last j x (mod-lt m (ten-pos (suc j))) ∙ ap (λ (z : ℕ). fixed j z ++ ((48 + x % 10) ∷ [])) t ∙ ap (λ (z : ℕ). fixed j (m / 10 % 10 ^ j) ++ ((48 + z) ∷ [])) u)
 
 pub length-fixed : (k n : ℕ) → length (fixed k n) ≡ k
 length-fixed zero n = refl

@@ -110,22 +110,19 @@ fn wide(n: u32) -> u64
     n as u64
 }
 
-// n in k decimal digits.
+// n in k decimal digits, the last one first: so each takes one division by ten.
 fn put_digits(out: &mut [u8], at: usize, k: usize, n: u64) -> usize
     requires { ⌜ (k ≤ 10) × (n < 10 ^ k) × (at < 1099511627776) ⌝ }
     ensures { λ r. ⌜ Printed (now (out .entry)) at (fixed k n) (now (out .exit)) r ⌝ }
 {
     let mut m = n;
-    let mut i = at;
     let mut j = k;
     while 0 < j {
         j -= 1;
-        let p = wkt::ten_to(j);
-        lists::put8(out, i, narrow(48 + m / p));
-        m %= p;
-        i += 1;
+        lists::put8(out, at + j, narrow(48 + m % 10));
+        m /= 10;
     }
-    i
+    at + k
 }
 
 // A whole number.
