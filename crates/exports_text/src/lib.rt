@@ -1,4 +1,5 @@
-// The C interface of the text program: `planner::answer` and `planner::answer_three` (document 01, "The text program"). Meaning: crates/planner/specs/Answer.antt.
+// The C interface of the text program: `planner::answer` and `planner::answer_three` (document 01, "The text program"; document 02, Q-7).
+// Meaning: crates/planner/specs/Answer.antt.
 ghost use Rattle.planner.specs.Answer.{sixPlaces, threePlaces, Answers};
 
 // The answer to a text, with six decimals: as much of it as `out` has room for, and zeros behind it. How long it is, is answered.

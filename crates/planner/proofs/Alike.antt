@@ -1,5 +1,5 @@
 -- TEXTS THAT ARE ANSWERED ALIKE. `answer-alike`: two texts that differ in the case of letters only have the same answer, byte for byte. `answer-before`: a text in
--- which no point has 4 to 6 digits after it is answered as if at most three were taken, so with three places as it was before document 02's Q-7.
+-- which no decimal point has 4 to 6 digits after it is answered as if at most three were taken, so with three places as it was before document 02's Q-7.
 -- Assumes nothing.
 use mathlib.Core.Path.{_≡_, ap}
 use mathlib.Core.List.{List}

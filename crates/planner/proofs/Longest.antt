@@ -1,4 +1,4 @@
--- HOW LONG AN ANSWER IS AT MOST: what is seen, in the rooms that the program lends, and a refusal of any number. `answer` promises the same of every text.
+-- HOW LONG AN ANSWER IS AT MOST: what is seen, in the rooms that the program lends, and a refusal of any number. `answer` and `answer_three` promise the same of every text.
 -- The polygons seen are distinct polygons of a sound site, so that they have no more points together than the site has.
 -- Assumes nothing.
 use mathlib.Core.Bool.{Bool, true, false, cond}

@@ -1,11 +1,12 @@
 -- WHAT MORE DECIMALS MOVE (document 02, Q-7: "Old files read to the same values as before"; "9 is no longer given for 4 to 6 decimals; 7 and more stay 9").
--- `as-before`: a text in which no point has 4 to 6 digits after it is read to the same values, or refused, as it was with at most three. `old-text`: a text that was
--- read then is read the same. Both are cases of laws over any two counts, f before and g now: `text-unmoved`, `decimals-kept`. Assumes nothing.
+-- `as-before`: a text in which no decimal point has 4 to 6 digits after it is read to the same values, or refused, as it was with at most three. `old-text`: a text
+-- that was read then is read the same. Both are cases of laws over any two counts, f before and g now: `text-unmoved`, `decimals-kept`. `six-read` and `six-most`: a
+-- number of up to six decimals is read, and what is read has no more. Assumes nothing.
 use mathlib.Core.Path.{_≡_, refl, sym, ap, _∙_}
 use mathlib.Core.Bool.{Bool, true, false, cond, false≢true}
 use mathlib.Core.Logic.{_⊎_, ⊎-elim}
 use mathlib.Core.List.{List, [], _∷_, _++_}
-use Prim.Native.Nat.{ℕ, _≤_, _<_}
+use Prim.Native.Nat.{ℕ, _+_, _≤_, _<_}
 use native.Mathlib.Omega.{arith}
 use lib.ListN.{length, drop}
 use borrow.Author.Tests.{eqb-true}
@@ -16,10 +17,10 @@ use Rattle.wkt.specs.Parse.{Parse, got, wrong, andThen, starts, run, pas
 use Rattle.wkt.specs.Rules.{rules, Wider}
 use Rattle.wkt.specs.Number.{Digits, digits, digitsOf, withPart, afterWhole, withWhole, unsigned, number}
 use Rattle.wkt.specs.Grammar.{Text, textOf}
-use Rattle.wkt.specs.Numeral.{Unmoved}
+use Rattle.wkt.specs.Numeral.{Numeral, Stands, Unmoved}
 use Rattle.wkt.specs.Answer.{textIn}
 use Rattle.wkt.proofs.Prefix.{not-got}
-use Rattle.wkt.proofs.Written.{ran, again, signless, digits-end}
+use Rattle.wkt.proofs.Written.{Written, ran, again, signless, digits-end, floatOf, number-nearest, number-read}
 use Rattle.wkt.proofs.Wider.{kept-both, text-kept, text-more}
 
 -- ---- f before, g now
@@ -74,3 +75,10 @@ old-text = decimals-kept formerPartDigits partDigits wholeDigits (omega arith)
 
 pub as-before : (t : List ℕ) → Unmoved formerPartDigits partDigits t → textOf (rules wholeDigits formerPartDigits) t ≡ textIn t
 as-before = text-unmoved formerPartDigits partDigits wholeDigits (omega arith)
+
+-- ---- and six they are: document 02's own numbers, 7 digits and 6
+pub six-read : (n : Numeral) (t rest : List ℕ) → Stands 7 6 n t rest → number wholeDigits partDigits t ≡ got (floatOf n) rest
+six-read n t rest h = number-read 7 6 n t rest h
+
+pub six-most : (t : List ℕ) (x : Float) (rest : List ℕ) → number wholeDigits partDigits t ≡ got x rest → Written 7 6 t rest x
+six-most t x rest e = number-nearest 7 6 (omega arith) t x rest e

@@ -45,7 +45,7 @@ pub record Stands (w f : ℕ) (n : Numeral) (t rest : List ℕ) : Type 0 where
   pub no-digit : run rest ≡ []
   pub no-point : n .part ≡ [] → starts pointByte rest ≡ false
 
--- ---- no point of the text has more than f and at most g digits after it
+-- ---- no decimal point of the text has more than f and at most g digits after it
 abbrev pub Unmoved : ℕ → ℕ → List ℕ → Type 0
 Unmoved f g [] = Unit {0}
 Unmoved f g (b ∷ t) = (b ≡ pointByte → (length (run t) ≤ f) ⊎ (g < length (run t))) × Unmoved f g t

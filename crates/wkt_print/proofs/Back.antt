@@ -1,5 +1,6 @@
--- WHAT WAS READ IS PRINTED AS IT STOOD (document 01, "The text program"; document 02's Q-7 for six decimals): a number of a text with at most `places` decimals,
--- read as the nearest float and printed with `places` decimals, is the same decimal again, with zeros behind: `shown-back`, and of a text `number-back`.
+-- WHAT WAS READ IS PRINTED AS THE SAME DECIMAL (document 01, "The text program"; document 02's Q-7 for six decimals): a number of a text with at most `places` decimals,
+-- read as the nearest float and printed with `places` decimals, is the same decimal again: zeros filled up behind, none in front, and
+-- no minus at zero. `shown-back`, and of a text `number-back`.
 -- Why: the float is off by half a unit of its last digit at most, and at 7 digits before the point and 6 after it that is far less than half of the last decimal.
 -- Assumes nothing.
 use mathlib.Core.Path.{_≡_, refl, sym, ap, _∙_, subst}
@@ -169,7 +170,7 @@ shown-back places n h dw dp w l =
     ∙ ap (decimalText places t) (p .scaled t)
     ∙ sign-text places t (n .minus) q (sign-back (n .minus) a (10 ^ (places - k)))
 
--- of a text: what is read of its front is printed as the numeral that stands there
+-- of a text: what is read of its front is printed as the decimal that stands there
 pub number-back : (w f places : ℕ) → w ≤ 7 → f ≤ places → places ≤ 6 → (t : List ℕ) (x : Float) (rest : List ℕ) → number w f t ≡ got x rest
     → (n : Numeral) × Stands w f n t rest × (shown places x ≡ decimalText places (n .minus) (upper n * 10 ^ (places - length (n .part))))
 number-back w f places hw hf h t x rest e =

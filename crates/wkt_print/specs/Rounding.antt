@@ -1,5 +1,5 @@
--- WHAT A PRINTED NUMBER IS, in words that know nothing of how it is printed: "exact value rounded to nearest and halves to even, never a signed zero" (document 01,
--- "The text program"), with any count of decimals; document 02's Q-7 has six, and three for readers limited to them. Definitions only.
+-- WHAT A PRINTED NUMBER SHOWS, in words that know nothing of how it is printed: "exact value rounded to nearest and halves to even, never a signed zero" (document 01,
+-- "The text program"), with any count of decimals from one on; document 02's Q-7 has six, and three for readers limited to them. Definitions only.
 use mathlib.Core.Path.{_≡_}
 use mathlib.Core.Bool.{Bool, not, _&&_}
 use mathlib.Core.Logic.{_⊎_}
