@@ -95,7 +95,7 @@ const WITH_PUBLISHED: &[Module] = &[
     Module {
         name: "text",
         compare: text::compare,
-        bench: |_| (),
+        bench: text::bench,
     },
     Module {
         name: "published",

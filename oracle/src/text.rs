@@ -22,6 +22,7 @@ use crate::lent;
 use crate::util::rng::SplitMix64;
 use crate::util::table::{Table, count};
 use crate::util::tally::{self, Tally, Value};
+use crate::util::timing::Bench;
 use crate::view::LISTS;
 use decimals::Decimals;
 use expected::{ENTRIES, Expected, MOST_CELLS, MOST_OUTLINE};
@@ -84,6 +85,12 @@ pub fn compare() -> bool {
     tallies.extend(printing);
     tallies.extend(reading);
     tally::print(&tallies)
+}
+
+/// Of single numbers: the Rust has no text program.
+pub fn bench(table: &mut Bench) {
+    print::bench(table);
+    reading::bench(table);
 }
 
 // ---- what is counted

@@ -5,9 +5,13 @@
 use super::{FILL, Told};
 use crate::probe::print_number;
 use crate::util::bits::step;
+use crate::util::floats::some;
 use crate::util::rng::SplitMix64;
 use crate::util::table::{Table, count};
 use crate::util::tally::Tally;
+use crate::util::timing::{Bench, INPUTS, Limit, Pair};
+use std::hint::black_box;
+use std::io::Write;
 
 /// The value times 10^places as a whole number, and whether it was a half that was rounded.
 fn scaled(x: f64, places: usize) -> (u128, bool) {
@@ -202,4 +206,36 @@ pub fn compare() -> Vec<Tally> {
         .collect();
     all.push(short);
     all
+}
+
+// ---- timings
+
+/// What is printed by a call, as a number that hangs on its last byte.
+fn printing(print: fn(f64, usize, &mut [u8]) -> usize, places: usize) -> impl Fn(Pair) -> u64 {
+    let print = black_box(print);
+    move |(x, _)| {
+        let mut out = [0; ROOM];
+        let n = print(x, places, &mut out);
+        n as u64 ^ u64::from(out[n - 1])
+    }
+}
+
+/// Rust's side, behind one call as ours is.
+fn rust_print(x: f64, places: usize, out: &mut [u8]) -> usize {
+    let mut left = &mut *out;
+    write!(left, "{x:.places$}").expect("room for a number");
+    let left = left.len();
+    out.len() - left
+}
+
+pub fn bench(table: &mut Bench) {
+    let r = &mut SplitMix64::new(8_970);
+    let coordinates = some(INPUTS, || (r.between(-1e3, 1e3), 0.0));
+    for (what, places) in [
+        ("a number printed with six decimals, -1e3 to 1e3", 6),
+        ("with three", 3),
+    ] {
+        let (ours, rust) = (printing(print_number, places), printing(rust_print, places));
+        table.add(what, Limit::None, &coordinates, ours, rust);
+    }
 }

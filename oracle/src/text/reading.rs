@@ -10,6 +10,8 @@ use crate::util::bits::show;
 use crate::util::rng::SplitMix64;
 use crate::util::table::{Table, count};
 use crate::util::tally::{Tally, Value};
+use crate::util::timing::{Bench, Limit, Pair};
+use std::hint::black_box;
 
 const AT_LEAST: u64 = 1_000_000;
 
@@ -219,4 +221,33 @@ pub fn compare() -> [Tally; 2] {
     }
     counts.print();
     [numbers, texts]
+}
+
+// ---- timings
+
+/// A text of six decimals with as many numbers as it may have, read whole, and Rust's `parse` of its words:
+/// no layout is tested there, no ring and no limit.
+pub fn bench(table: &mut Bench) {
+    let r = &mut SplitMix64::new(8_971);
+    let words: Vec<String> = (0..2 * MOST_POINTS)
+        .map(|_| format!("{:.6}", r.between(-1e3, 1e3)))
+        .collect();
+    let text = text(8, &words);
+    let (text, words) = (black_box(&text), black_box(&words));
+    let ours = |_: Pair| {
+        let (mut points, mut lens) = ([0.0; 2 * MOST_POINTS], [0; MOST_POLYGONS]);
+        let refusal = read_input(text, &mut points, &mut lens);
+        assert_eq!(refusal, 0);
+        points[2 * MOST_POINTS - 1].to_bits()
+    };
+    let rust = |_: Pair| {
+        let mut points = [0.0f64; 2 * MOST_POINTS];
+        for (x, word) in points.iter_mut().zip(words) {
+            *x = word.parse().expect("a decimal number");
+        }
+        black_box(&points)[2 * MOST_POINTS - 1].to_bits()
+    };
+    let calls = [(0.0, 0.0); 8];
+    let what = "a text of 1,024 numbers with six decimals read, Rust's `parse` of them alone";
+    table.add_few(what, Limit::None, &calls, ours, rust);
 }
