@@ -2,25 +2,24 @@
 -- `as-before`: a text in which no decimal point has 4 to 6 digits after it is read to the same values, or refused, as it was with at most three. `old-text`: a text
 -- that was read then is read the same. Both are cases of laws over any two counts, f before and g now: `text-unmoved`, `decimals-kept`. `six-read` and `six-most`: a
 -- number of up to six decimals is read, and what is read has no more. Assumes nothing.
-use mathlib.Core.Path.{_≡_, refl, sym, ap, _∙_}
-use mathlib.Core.Bool.{Bool, true, false, cond, false≢true}
+use mathlib.Core.Path.{_≡_, refl}
+use mathlib.Core.Bool.{true, false, false≢true}
 use mathlib.Core.Logic.{_⊎_, ⊎-elim}
-use mathlib.Core.List.{List, [], _∷_, _++_}
-use Prim.Native.Nat.{ℕ, _+_, _≤_, _<_}
+use mathlib.Core.List.{List, [], _∷_}
+use Prim.Native.Nat.{ℕ, _≤_}
 use native.Mathlib.Omega.{arith}
 use lib.ListN.{length, drop}
 use borrow.Author.Tests.{eqb-true}
 use lib.Ieee.{Float}
 use Rattle.wkt.specs.Limits.{wholeDigits, partDigits, formerPartDigits}
-use Rattle.wkt.specs.Words.{minusByte, pointByte}
-use Rattle.wkt.specs.Parse.{Parse, got, wrong, andThen, starts, run, past}
+use Rattle.wkt.specs.Words.{pointByte}
+use Rattle.wkt.specs.Parse.{got, starts, run}
 use Rattle.wkt.specs.Rules.{rules, Wider}
-use Rattle.wkt.specs.Number.{Digits, digits, digitsOf, withPart, afterWhole, withWhole, unsigned, number}
+use Rattle.wkt.specs.Number.{Digits, digits, digitsOf, number}
 use Rattle.wkt.specs.Grammar.{Text, textOf}
 use Rattle.wkt.specs.Numeral.{Numeral, Stands, Unmoved}
 use Rattle.wkt.specs.Answer.{textIn}
-use Rattle.wkt.proofs.Prefix.{not-got}
-use Rattle.wkt.proofs.Written.{Written, ran, again, signless, digits-end, floatOf, number-nearest, number-read}
+use Rattle.wkt.proofs.Written.{Written, ran, again, number-by, floatOf, number-nearest, number-read}
 use Rattle.wkt.proofs.Wider.{kept-both, text-kept, text-more}
 
 -- ---- f before, g now
@@ -36,27 +35,6 @@ module _ (f g : ℕ) where
       let few : length (run t) ≤ f = ⊎-elim (λ l. l) (λ l. absurd (omega (arith, r .few))) (h .0 (eqb-true b pointByte e)) in
       again f t v k u r few
 
-  after-less : (b : Bool) (s : Bool) (n : ℕ) (t : List ℕ) → starts pointByte t ≡ b → Unmoved f g t → (x : Float) (rest : List ℕ) → afterWhole b g s n t ≡ got x rest → afterWhole b f s n t ≡ got x rest
-  after-less true s n t e h x rest i = go (digitsOf g (drop 1 t)) refl i
-    where
-      go : (r : Parse Digits) → digitsOf g (drop 1 t) ≡ r → andThen r (withPart s n) ≡ got x rest → andThen (digitsOf f (drop 1 t)) (withPart s n) ≡ got x rest
-      go (got d z) p i = ap (λ (r : Parse Digits). andThen r (withPart s n)) (here t h e d z p) ∙ i
-      go wrong p i = absurd (not-got x rest i)
-  after-less false s n t e h x rest i = i
-
-  unsigned-less : (w : ℕ) (s : Bool) (t : List ℕ) → Unmoved f g t → (x : Float) (rest : List ℕ) → unsigned w g s t ≡ got x rest → unsigned w f s t ≡ got x rest
-  unfolding unsigned
-  unsigned-less w s t h x rest = go (digitsOf w t) refl
-    where
-      go : (r : Parse Digits) → digitsOf w t ≡ r → andThen r (withWhole g s) ≡ got x rest → andThen r (withWhole f s) ≡ got x rest
-      go (got (digits n c) u) p i = after-less (starts pointByte u) s n u refl (digits-end (Unmoved f g) later w t (digits n c) u p h) x rest i
-      go wrong p i = absurd (not-got x rest i)
-
-  number-less : (w : ℕ) (t : List ℕ) → Unmoved f g t → (x : Float) (rest : List ℕ) → number w g t ≡ got x rest → number w f t ≡ got x rest
-  unfolding number
-  number-less w t h x rest i =
-      unsigned-less w (starts minusByte t) (cond (starts minusByte t) (drop 1 t) t) (signless (Unmoved f g) later (starts minusByte t) t h) x rest i
-
   module _ (w : ℕ) (l : f ≤ g) where
     wider : Wider (rules w f) (rules w g)
     wider = record { words = record { whole = refl; part = l; letter = λ b c k e. e }; empty = λ e. e }
@@ -67,7 +45,7 @@ module _ (f g : ℕ) where
     pub text-unmoved : (t : List ℕ) → Unmoved f g t → textOf (rules w f) t ≡ textOf (rules w g) t
     text-unmoved t h =
         kept-both (textOf (rules w f) t) (textOf (rules w g) t) (decimals-kept t)
-        (text-kept (Unmoved f g) later (rules w g) (rules w f) (λ t h x u e. number-less w t h x u e) (λ b c k e. e) (λ e. e) t h)
+        (text-kept (Unmoved f g) later (rules w g) (rules w f) (number-by (Unmoved f g) later g f here w) (λ b c k e. e) (λ e. e) t h)
 
 -- ---- three before, six now
 pub old-text : (t : List ℕ) (x : Text) (u : List ℕ) → textOf (rules wholeDigits formerPartDigits) t ≡ got x u → textIn t ≡ got x u

@@ -17,7 +17,7 @@ use Rattle.wkt.specs.Rules.{Rules, capitalOf, Reads, Wider}
 use Rattle.wkt.specs.Number.{number}
 use Rattle.wkt.specs.Grammar.{Point, point, pair, after, points, closed, opened, closing, ring, ended, ringLine, polygon, Post, post, measured, measure, ranged, postLine, Text, scene, untilEnd, polygons, posted, textOf}
 use Rattle.wkt.proofs.Prefix.{not-got, same-got}
-use Rattle.wkt.proofs.Written.{number-more, number-end}
+use Rattle.wkt.proofs.Written.{dropped, number-more, number-end}
 use Rattle.wkt.proofs.Lined.{line-none, polygon-empty, polygon-ring}
 
 -- ---- no line is both a ring's and EMPTY: they part after their first eight bytes
@@ -51,11 +51,6 @@ upper (b ∷ v) = eqb (capitalOf b) b && upper v
 
 -- an end of a text of the kind P is of this kind
 module _ (P : List ℕ → Type 0) (tail : (b : ℕ) (t : List ℕ) → P (b ∷ t) → P t) where
-  dropped : (n : ℕ) (t : List ℕ) → P t → P (drop n t)
-  dropped zero t p = p
-  dropped (suc n) [] p = p
-  dropped (suc n) (b ∷ t) p = dropped n t (tail b t p)
-
   module _ {A : Type 0} where
     kept-got : (a : A) (u : List ℕ) → P u → Kept P (got a u) (got a u)
     kept-got a u p = record { is = λ b v e. (e, subst P (sym (same-got a b u v e .1)) p) }
@@ -98,7 +93,7 @@ module _ (P : List ℕ → Type 0) (tail : (b : ℕ) (t : List ℕ) → P (b ∷
         and-eq-true-iff (eqb (how' .letter x) b) (begins (how' .letter) v t) .1 (eq-eqb _ _ (L x b (eqb-true _ _ (p .0)) (eqb-true _ _ (q .0))), more-begins v t (p .1) (q .1))
 
     kept-word : {A : Type 0} (v t : List ℕ) (k k' : List ℕ → Parse A) → upper v ≡ true → P t → ((t : List ℕ) → P t → Kept P (k t) (k' t)) → Kept P (word (how .letter) v t k) (word (how' .letter) v t k')
-    kept-word v t k k' c p h = kept-if (begins (how .letter) v t) (begins (how' .letter) v t) k k' (drop (length v) t) (more-begins v t c) (dropped (length v) t p) h
+    kept-word v t k k' c p h = kept-if (begins (how .letter) v t) (begins (how' .letter) v t) k k' (drop (length v) t) (more-begins v t c) (dropped P tail (length v) t p) h
 
     kept-number : (t : List ℕ) → P t → Kept P (number (how .whole) (how .part) t) (number (how' .whole) (how' .part) t)
     kept-number t p = record { is = λ x u e. (N t p x u e, number-end P tail (how .whole) (how .part) t x u e p) }
@@ -164,7 +159,7 @@ module _ (P : List ℕ → Type 0) (tail : (b : ℕ) (t : List ℕ) → P (b ∷
           go true i =
               let q = and-eq-true-iff (how .empty) (begins (how .letter) emptyLine t) .0 i in
               let j = and-eq-true-iff (how' .empty) (begins (how' .letter) emptyLine t) .1 (E (q .0), more-begins emptyLine t refl (q .1)) in
-              let none = kept-got {A = List Point} [] (drop (length emptyLine) t) (dropped (length emptyLine) t p) in
+              let none = kept-got {A = List Point} [] (drop (length emptyLine) t) (dropped P tail (length emptyLine) t p) in
               record { is = λ ps u e. let z = none .is ps u (sym (polygon-empty how t i) ∙ e) in (polygon-empty how' t j ∙ z .0, z .1) }
           go false i = record { is = λ ps u e. ring-kept t p .is ps u (polygon-ring how t i ∙ e) }
 

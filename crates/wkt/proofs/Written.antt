@@ -5,7 +5,7 @@
 use mathlib.Core.Path.{_≡_, refl, sym, ap, _∙_, subst}
 use mathlib.Core.Bool.{Bool, true, false, _&&_, cond, false≢true, and-eq-true-iff}
 use mathlib.Core.List.{List, [], _∷_, _++_, append-assoc}
-use Prim.Native.Nat.{ℕ, suc, _+_, _-_, _*_, _^_, _≤_, _<_, zero-le}
+use Prim.Native.Nat.{ℕ, zero, suc, _+_, _-_, _*_, _^_, _≤_, _<_, zero-le}
 use native.Mathlib.Nat.{mul-assoc, mul-one, mul-comm, mul-le-mul-right, lt-of-lt-of-le, le-of-eq, le-trans, pow-suc}
 use native.Mathlib.Omega.{arith}
 use lib.ListN.{length, drop}
@@ -248,18 +248,19 @@ module _ (P : List ℕ → Type 0) (tail : (b : ℕ) (t : List ℕ) → P (b ∷
       go true q = q
       go false q = p
 
-  one-off : (t : List ℕ) → P t → P (drop 1 t)
-  one-off [] p = p
-  one-off (b ∷ t) p = tail b t p
+  pub dropped : (n : ℕ) (t : List ℕ) → P t → P (drop n t)
+  dropped zero t p = p
+  dropped (suc n) [] p = p
+  dropped (suc n) (b ∷ t) p = dropped n t (tail b t p)
 
-  pub digits-end : (limit : ℕ) (t : List ℕ) (d : Digits) (u : List ℕ) → digitsOf limit t ≡ got d u → P t → P u
+  digits-end : (limit : ℕ) (t : List ℕ) (d : Digits) (u : List ℕ) → digitsOf limit t ≡ got d u → P t → P u
   digits-end limit t (digits v k) u e p = subst P (sym (ran limit t v k u e .rest)) (past-end t p)
 
   after-end : (b : Bool) (f : ℕ) (s : Bool) (n : ℕ) (t : List ℕ) (x : Float) (rest : List ℕ) → afterWhole b f s n t ≡ got x rest → P t → P rest
   after-end true f s n t x rest h p = go (digitsOf f (drop 1 t)) refl h
     where
       go : (r : Parse Digits) → digitsOf f (drop 1 t) ≡ r → andThen r (withPart s n) ≡ got x rest → P rest
-      go (got (digits v k) z) e h = subst P (sym (same-got (decimal s n v k) x z rest h .1)) (digits-end f (drop 1 t) (digits v k) z e (one-off t p))
+      go (got (digits v k) z) e h = subst P (sym (same-got (decimal s n v k) x z rest h .1)) (digits-end f (drop 1 t) (digits v k) z e (dropped 1 t p))
       go wrong e h = absurd (not-got x rest h)
   after-end false f s n t x rest h p = subst P (sym (same-got (decimal s n 0 0) x t rest h .1)) p
 
@@ -271,13 +272,35 @@ module _ (P : List ℕ → Type 0) (tail : (b : ℕ) (t : List ℕ) → P (b ∷
       go (got (digits n c) u) e h = after-end (starts pointByte u) f s n u x rest h (digits-end w t (digits n c) u e p)
       go wrong e h = absurd (not-got x rest h)
 
-  pub signless : (s : Bool) (t : List ℕ) → P t → P (cond s (drop 1 t) t)
-  signless true t p = one-off t p
+  signless : (s : Bool) (t : List ℕ) → P t → P (cond s (drop 1 t) t)
+  signless true t p = dropped 1 t p
   signless false t p = p
 
   pub number-end : (w f : ℕ) (t : List ℕ) (x : Float) (rest : List ℕ) → number w f t ≡ got x rest → P t → P rest
   unfolding number
   number-end w f t x rest h p = unsigned-end w f (starts minusByte t) (cond (starts minusByte t) (drop 1 t) t) x rest h (signless (starts minusByte t) t p)
+
+  -- where digits that f takes after a point are taken by g too, so is a number
+  module _ (f g : ℕ) (D : (t : List ℕ) → P t → starts pointByte t ≡ true → (d : Digits) (u : List ℕ) → digitsOf f (drop 1 t) ≡ got d u → digitsOf g (drop 1 t) ≡ got d u) where
+    after-by : (b s : Bool) (n : ℕ) (t : List ℕ) → starts pointByte t ≡ b → P t → (x : Float) (rest : List ℕ) → afterWhole b f s n t ≡ got x rest → afterWhole b g s n t ≡ got x rest
+    after-by true s n t e p x rest i = go (digitsOf f (drop 1 t)) refl i
+      where
+        go : (r : Parse Digits) → digitsOf f (drop 1 t) ≡ r → andThen r (withPart s n) ≡ got x rest → andThen (digitsOf g (drop 1 t)) (withPart s n) ≡ got x rest
+        go (got d z) q i = ap (λ (r : Parse Digits). andThen r (withPart s n)) (D t p e d z q) ∙ i
+        go wrong q i = absurd (not-got x rest i)
+    after-by false s n t e p x rest i = i
+
+    unsigned-by : (w : ℕ) (s : Bool) (t : List ℕ) → P t → (x : Float) (rest : List ℕ) → unsigned w f s t ≡ got x rest → unsigned w g s t ≡ got x rest
+    unfolding unsigned
+    unsigned-by w s t p x rest = go (digitsOf w t) refl
+      where
+        go : (r : Parse Digits) → digitsOf w t ≡ r → andThen r (withWhole f s) ≡ got x rest → andThen r (withWhole g s) ≡ got x rest
+        go (got (digits n c) u) q i = after-by (starts pointByte u) s n u refl (digits-end w t (digits n c) u q p) x rest i
+        go wrong q i = absurd (not-got x rest i)
+
+    pub number-by : (w : ℕ) (t : List ℕ) → P t → (x : Float) (rest : List ℕ) → number w f t ≡ got x rest → number w g t ≡ got x rest
+    unfolding number
+    number-by w t p x rest i = unsigned-by w (starts minusByte t) (cond (starts minusByte t) (drop 1 t) t) (signless (starts minusByte t) t p) x rest i
 
 -- ---- more digits allowed after the point: what was read is read as before
 pub again : (f : ℕ) {g : ℕ} (t : List ℕ) (v k : ℕ) (u : List ℕ) → Ran g t v k u → length (run t) ≤ f → digitsOf f t ≡ got (digits v k) u
@@ -292,17 +315,4 @@ more : (f g : ℕ) → f ≤ g → (t : List ℕ) (d : Digits) (u : List ℕ) �
 more f g l t (digits v k) u e = let r = ran f t v k u e in again g t v k u r (le-trans (r .few) l)
 
 pub number-more : (w f g : ℕ) → f ≤ g → (t : List ℕ) (x : Float) (rest : List ℕ) → number w f t ≡ got x rest → number w g t ≡ got x rest
-unfolding number unsigned
-number-more w f g l t x rest = go (digitsOf w (cond (starts 45 t) (drop 1 t) t))
-  where
-    after : (b : Bool) (n : ℕ) (u : List ℕ) → afterWhole b f (starts 45 t) n u ≡ got x rest → afterWhole b g (starts 45 t) n u ≡ got x rest
-    after true n u h = parts (digitsOf f (drop 1 u)) refl h
-      where
-        parts : (r : Parse Digits) → digitsOf f (drop 1 u) ≡ r → andThen r (withPart (starts 45 t) n) ≡ got x rest → andThen (digitsOf g (drop 1 u)) (withPart (starts 45 t) n) ≡ got x rest
-        parts (got d z) e h = ap (λ (r : Parse Digits). andThen r (withPart (starts 45 t) n)) (more f g l (drop 1 u) d z e) ∙ h
-        parts wrong e h = absurd (not-got x rest h)
-    after false n u h = h
-
-    go : (r : Parse Digits) → andThen r (withWhole f (starts 45 t)) ≡ got x rest → andThen r (withWhole g (starts 45 t)) ≡ got x rest
-    go (got (digits n c) u) h = after (starts 46 u) n u h
-    go wrong h = absurd (not-got x rest h)
+number-more w f g l t = number-by (λ _. Unit {0}) (λ b t p. tt) f g (λ t p e d u i. more f g l (drop 1 t) d u i) w t tt
