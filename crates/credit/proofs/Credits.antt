@@ -16,7 +16,7 @@ use borrow.Author.Tests.{eq-eqb, ne-eqb, eqb-true, eqb-false}
 use Rattle.lists.specs.Members.{In, All, NoDup}
 use Rattle.lists.specs.Parts.{part}
 use Rattle.lists.proofs.Cases.{lt-or-le, eq-or-ne}
-use Rattle.lists.proofs.Members.{in-left, in-right, in-either}
+use Rattle.lists.proofs.Members.{in-left, in-right, in-either, in-map, from-map}
 use Rattle.geom.specs.Constants.{nano}
 use Rattle.geom.specs.declared.Vec2.{Vec2}
 use Rattle.site.specs.declared.Cast.{Cast}
@@ -31,7 +31,6 @@ use Rattle.index.specs.Angular.{Index}
 use Rattle.index.specs.Casting.{castBy, castOf, isTied, testedIn, tiedOf}
 use Rattle.index.specs.Stands.{indexIn, WalkedAt}
 use Rattle.index.proofs.Casts.{cast-hit, cast-miss, cast-is, tested-is, tie-is}
-use Rattle.index.proofs.Hits.{in-map, from-map}
 use Rattle.index.proofs.Lowest.{alone}
 use Rattle.outline.specs.declared.Trace.{Trace}
 use Rattle.outline.specs.Outline.{Own, owned, ownOf, Room}

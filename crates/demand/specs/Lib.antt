@@ -2,4 +2,5 @@
 pub mod Calls
 pub mod Sweeps
 pub mod Demands
+pub mod Engines
 pub mod Unbounded

@@ -20,6 +20,8 @@ ghost use Rattle.random.specs.Outcome as drawing;
 ghost use Rattle.scene.specs.Answers.{widthOf, heightOf, boundsOf, dimsOf, polygonOf, polygonVerticesOf, polygonVerticesNumberOf, edgeOf, edgeEndOf, edgeOwnerOf, itemsAtOf, itemsAtNumberOf, polygonAtOf, castRayOf};
 ghost use Rattle.scene.specs.Stamping.{polygonsNearOf, newStampsOf};
 ghost use Rattle.grid.specs.Numbers.{Lists};
+ghost use Rattle.near.specs.Outcome.{plainOf};
+ghost use Rattle.near.specs.Numbers as plain;
 ghost use Rattle.scene.specs.Numbers.{extentStatus, extentValue, boundsStatus, boundsFour, dimsStatus, dimsTwo, shapeStatus, shapePlace, shapeFour, segmentStatus, segmentFour, indexStatus, indexValue, countStatus, countValue, foundStatus, foundTwo, lookStatus, lookDistance, lookThree};
 ghost use Rattle.answers.specs.Head.{siteOf};
 ghost use Rattle.answers.specs.Outcomes.{Anew, Builds};
@@ -84,6 +86,32 @@ pub extern "C" fn bf_scene_polygons_near(
         answers::box_of(b),
         marks,
         epoch,
+        ids,
+    );
+    answers::put_counts(tally, a);
+    answers::listed_status(a)
+}
+
+// The box query worked out from points and polygons alone: ids written and entries counted in `tally`. Width and height of the head, and the number of items, are
+// not read.
+#[no_mangle]
+pub extern "C" fn bf_scene_polygons_near_plain(
+    head: &[f64; 6],
+    counts: &[u32; 5],
+    points: &[f64],
+    polygons: &[u32],
+    b: &[f64; 4],
+    ids: &mut [u32],
+    tally: &mut [u64; 2],
+) -> u32
+    ensures { λ r. ⌜ plain.Lists (plainOf (siteOf (now (head .entry)) (now (counts .entry))) (now (points .entry)) (now (polygons .entry)) (boxAt (now (b .entry)) 0) (now (ids .entry)))
+        r (now (ids .exit)) (now (tally .exit)) ⌝ }
+{
+    let a = near::polygons_near_plain(
+        answers::site_of(head, counts),
+        points,
+        polygons,
+        answers::box_of(b),
         ids,
     );
     answers::put_counts(tally, a);

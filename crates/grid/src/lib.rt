@@ -276,7 +276,7 @@ fn stamp_part(part: &[u32], marks: &mut [u32], e: u32, ids: &mut [u32], n: usize
 }
 
 // How many numbers there are from a to z, both counted: none where z is before a.
-fn count(a: u32, z: u32) -> usize
+pub fn count(a: u32, z: u32) -> usize
     ensures { λ r. ⌜ r ≡ suc z - a ⌝ }
 {
     if a <= z { (z - a) as usize + 1 } else { 0 }

@@ -1,9 +1,9 @@
 -- EVERY EDGE TESTED IS A FRONT EDGE: `tested-front`: a cast over the index of a list of edges tests edges of that list only. `tied-front`: so is every edge that it
 -- meets at a distance. The edge answered is one of these (`tied-hit`, proofs/Lowest.antt). Assumes nothing.
-use mathlib.Core.Path.{_≡_, refl, sym, ap, subst}
-use mathlib.Core.Logic.{inl, inr, ⊎-elim}
+use mathlib.Core.Path.{sym, subst}
+use mathlib.Core.Logic.{⊎-elim}
 use mathlib.Core.Bool.{Bool}
-use mathlib.Core.List.{List, [], _∷_, map}
+use mathlib.Core.List.{List, [], _∷_}
 use Prim.Native.Nat.{ℕ, _<_}
 use native.Mathlib.Omega.{arith}
 use lib.ListN.{length}
@@ -23,14 +23,6 @@ use Rattle.index.specs.Spans.{bucketsFor, headOf, bucketOf, spansOf}
 use Rattle.index.specs.Angular.{nearer, nearestFirst, bucketEdges, indexOf}
 use Rattle.index.specs.Casting.{noneYet, stopOf, meetOf, testedOf, tiesAt, turnedOf, bucketAt, testedIn, tiedOf}
 use Rattle.index.proofs.Builds.{all-bucket}
-
-pub in-map : {A B : Type 0} (f : A → B) (x : A) (l : List A) → In x l → In (f x) (map f l)
-in-map f x [] i = absurd i
-in-map f x (y ∷ l) i = ⊎-elim (λ e. inl (ap f e)) (λ k. inr (in-map f x l k)) i
-
-pub from-map : {A B : Type 0} (f : A → B) (y : B) (l : List A) → In y (map f l) → (x : A) × In x l × (f x ≡ y)
-from-map f y [] h = absurd h
-from-map f y (x ∷ l) h = ⊎-elim (λ e. (x, inl refl, sym e)) (λ i. let (z, j, e) = from-map f y l i in (z, inr j, e)) h
 
 -- what all edges of a list have, those of a bucket of their index have
 bucket-all : (P : LocalEdge → Type 0) (mode : ℕ) (total : Float) (es : List LocalEdge) (angle : Float) → All P es → All P (bucketAt (indexOf mode total es) angle)

@@ -1,9 +1,9 @@
 -- Laws of `In`, `NoDup`, `All`, `holds` and `Rises`.
 -- Assumes nothing.
-use mathlib.Core.Path.{_≡_, refl, sym, subst}
+use mathlib.Core.Path.{_≡_, refl, sym, ap, subst}
 use mathlib.Core.Logic.{_⊎_, inl, inr, ⊎-elim}
 use mathlib.Core.Bool.{Bool, true, false, _||_, false≢true}
-use mathlib.Core.List.{List, [], _∷_, _++_, List·Memᴰ, List·Memᴰ·head, List·Memᴰ·tail, List·Memᴰ·cases-cons, List·Memᴰ·not-nil}
+use mathlib.Core.List.{List, [], _∷_, _++_, map, List·Memᴰ, List·Memᴰ·head, List·Memᴰ·tail, List·Memᴰ·cases-cons, List·Memᴰ·not-nil}
 use Prim.Native.Nat.{ℕ, zero, suc, _+_, _-_, _≤_, _<_}
 use native.Mathlib.Nat.{le-of-suc-le-suc, not-suc-le-zero, le-refl, le-trans, add-zero, add-suc, suc-add}
 use native.Mathlib.Omega.{arith}
@@ -88,6 +88,21 @@ module _ {A : Type 0} where
 
   pub all-part : (P : A → Type 0) (a e : ℕ) (l : List A) → All P l → All P (part a e l)
   all-part P a e l h = all-take P (e - a) (drop a l) (all-drop P a l h)
+
+-- ---- what is in a list that is mapped
+
+module _ {A B : Type 0} (f : A → B) where
+  pub in-map : (x : A) (l : List A) → In x l → In (f x) (map f l)
+  in-map x [] i = absurd i
+  in-map x (y ∷ l) i = ⊎-elim (λ e. inl (ap f e)) (λ k. inr (in-map x l k)) i
+
+  pub from-map : (y : B) (l : List A) → In y (map f l) → (x : A) × In x l × (f x ≡ y)
+  from-map y [] h = absurd h
+  from-map y (x ∷ l) h = ⊎-elim (λ e. (x, inl refl, sym e)) (λ i. let (z, j, e) = from-map y l i in (z, inr j, e)) h
+
+  pub all-mapped : (P : B → Type 0) (l : List A) → All (λ x. P (f x)) l → All P (map f l)
+  all-mapped P [] h = tt
+  all-mapped P (x ∷ l) h = (h .0, all-mapped P l (h .1))
 
 -- ---- the test of membership
 

@@ -1,4 +1,4 @@
-// The lines that ask a site, by number: 602 to 608 are questions, 701 is an outline, 702 an outline and 703 a ray in a mode. `oracle/src/scene/lines.rs` has the
+// The lines that ask a site, by number: 602 to 609 are questions, 701 is an outline, 702 an outline and 703 a ray in a mode. `oracle/src/scene/lines.rs` has the
 // same numbers.
 use crate::outlines;
 use crate::questions;

@@ -1,4 +1,5 @@
-// Questions to a site: 602 to 608, in the order of `scene.rs`, and 703, a ray in a mode. The words after the number are the arguments. There is room for 16 ids; over that is no answer.
+// Questions to a site: 602 to 608, in the order of `scene.rs`, 609, the box query by points and polygons alone, and 703, a ray in a mode. The words after the number are
+// the arguments. There is room for 16 ids; over that is no answer.
 use crate::results;
 use lines::float;
 use lines::narrow;
@@ -79,6 +80,48 @@ fn answer_near(
         &mut ids[0..room],
         out,
     )
+}
+
+// The box query at b, by points and polygons alone.
+fn near_plain(
+    head: &[f64; 6],
+    counts: &[u32; 5],
+    points: &[f64],
+    polygons: &[u32],
+    b: &[f64; 4],
+    ids: &mut [u32],
+    out: &mut [u64],
+) -> usize {
+    let mut tally = [0u64; 2];
+    let status = exports_scene::bf_scene_polygons_near_plain(
+        head,
+        counts,
+        points,
+        polygons,
+        b,
+        &mut *ids,
+        &mut tally,
+    );
+    results::near_plain(out, status, &tally, ids)
+}
+
+// 609: four numbers of a box, the room for ids.
+fn answer_near_plain(
+    head: &[f64; 6],
+    counts: &[u32; 5],
+    points: &[f64],
+    polygons: &[u32],
+    w: &[u64],
+    out: &mut [u64],
+) -> usize {
+    let k = word(w, 5);
+    if IDS < k {
+        return 0;
+    }
+    let room = k as usize;
+    let b = [float(w, 1), float(w, 2), float(w, 3), float(w, 4)];
+    let mut ids = [0u32; 16];
+    near_plain(head, counts, points, polygons, &b, &mut ids[0..room], out)
 }
 
 // 603: a point.
@@ -567,6 +610,9 @@ pub(crate) fn answer(
             items,
             out,
         );
+    }
+    if f == 609 {
+        return answer_near_plain(head, counts, points, polygons, w, out);
     }
     0
 }

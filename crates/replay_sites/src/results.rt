@@ -17,6 +17,13 @@ pub(crate) fn two(out: &mut [u64], at: usize, status: u32, v: &[u32; 2]) -> usiz
     push_list(&mut *out, next, v, 2)
 }
 
+// A status, ids written and entries read.
+fn counted(out: &mut [u64], status: u32, tally: &[u64; 2]) -> usize {
+    let mut at = push(&mut *out, 0, wide(status));
+    at = push(&mut *out, at, tally[0]);
+    push(&mut *out, at, tally[1])
+}
+
 // The box query: ids written, entries read, the epoch, and all ids that there was room for.
 pub(crate) fn near(
     out: &mut [u64],
@@ -25,10 +32,14 @@ pub(crate) fn near(
     epoch: u32,
     ids: &[u32],
 ) -> usize {
-    let mut at = push(&mut *out, 0, wide(status));
-    at = push(&mut *out, at, tally[0]);
-    at = push(&mut *out, at, tally[1]);
+    let mut at = counted(&mut *out, status, tally);
     at = push(&mut *out, at, wide(epoch));
+    push_list(&mut *out, at, ids, ids.len())
+}
+
+// The same without stamps.
+pub(crate) fn near_plain(out: &mut [u64], status: u32, tally: &[u64; 2], ids: &[u32]) -> usize {
+    let at = counted(&mut *out, status, tally);
     push_list(&mut *out, at, ids, ids.len())
 }
 

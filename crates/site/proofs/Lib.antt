@@ -4,5 +4,6 @@ pub mod Distances
 pub mod Falling
 pub mod Ways
 pub mod SoundLaws
+pub mod PlainLaws
 pub mod Shares
 pub mod Checks

@@ -95,7 +95,7 @@ long s t e =
       items = leb-true _ _ (a .1);
     }
 
-few : (s : Site) → countsWithin s ≡ true → (s .polygons ≤ 4096) × (s .points ≤ 65536)
+pub few : (s : Site) → countsWithin s ≡ true → (s .polygons ≤ 4096) × (s .points ≤ 65536)
 unfolding countsWithin
 few s e = let a = both _ _ e in (leb-true _ _ (a .0), leb-true _ _ (a .1))
 
@@ -103,11 +103,11 @@ head-in : (s : Site) → headInDomain s ≡ true → (inSize (s .width) ≡ true
 unfolding headInDomain
 head-in s e = let a = both _ _ e in let b = both _ _ (a .0) in (b .0, b .1, a .1)
 
-points-in : (n : ℕ) (l : List Float) → pointsInDomain n l ≡ true → (i : ℕ) → i < n → pointInDomain (pointAt l i) ≡ true
+pub points-in : (n : ℕ) (l : List Float) → pointsInDomain n l ≡ true → (i : ℕ) → i < n → pointInDomain (pointAt l i) ≡ true
 unfolding pointsInDomain
 points-in n l e i h = allTo-at (λ j. pointInDomain (pointAt l j)) n e i h
 
-cell-is : (g : Grid) → cellRight g ≡ true → (le oneF (g .cell) ≡ true) × (lt (g .cell) (inf false) ≡ true) × (eq (g .«inv_cell») (oneF ⊘ g .cell) ≡ true)
+pub cell-is : (g : Grid) → cellRight g ≡ true → (le oneF (g .cell) ≡ true) × (lt (g .cell) (inf false) ≡ true) × (eq (g .«inv_cell») (oneF ⊘ g .cell) ≡ true)
 unfolding cellRight
 cell-is g e = let a = both _ _ e in let b = both _ _ (a .0) in (b .0, b .1, a .1)
 
@@ -115,7 +115,7 @@ boxes-are : (n : ℕ) (p b : List Float) (g : List ℕ) → boxesRight n p b g �
 unfolding boxesRight boxRight
 boxes-are n p b g e k h = allTo-at (λ j. sameBox (boxAt b j) (boxOf p g j)) n e k h
 
-cells-in : (s : Site) → cellsWithin s ≡ true → (1 ≤ s .grid .cols) × (1 ≤ s .grid .rows) × (cellsOf s ≤ 1048576)
+pub cells-in : (s : Site) → cellsWithin s ≡ true → (1 ≤ s .grid .cols) × (1 ≤ s .grid .rows) × (cellsOf s ≤ 1048576)
 unfolding cellsWithin
 cells-in s e = let a = both _ _ e in let b = both _ _ (a .0) in (leb-true _ _ (b .0), leb-true _ _ (b .1), leb-true _ _ (a .1))
 
@@ -136,7 +136,7 @@ items-are count n g l e i h =
     let a = both _ _ (allTo-at (λ j. ltb (itemAt l j) n && leb 3 (lenOf g (itemAt l j))) count e i h) in
     (ltb-true _ _ (a .0), leb-true _ _ (a .1))
 
-parts-in : (n m : ℕ) (g : List ℕ) → partsInside n m g ≡ true → (k : ℕ) → k < n → firstOf g k + lenOf g k ≤ m
+pub parts-in : (n m : ℕ) (g : List ℕ) → partsInside n m g ≡ true → (k : ℕ) → k < n → firstOf g k + lenOf g k ≤ m
 unfolding partsInside
 parts-in n m g e k h = leb-true _ _ (allTo-at (λ j. leb (firstOf g j + lenOf g j) m) n e k h)
 
@@ -201,6 +201,26 @@ sound s t e =
 and-both : (a b : Bool) → a ≡ true → b ≡ true → (a && b) ≡ true
 and-both a b e f = rw (e, f)
 
+pub counts-pass : (s : Site) → s .polygons ≤ 4096 → s .points ≤ 65536 → countsWithin s ≡ true
+unfolding countsWithin
+counts-pass s a b = simp (le-leb _ _ a, le-leb _ _ b)
+
+pub points-pass : (n : ℕ) (l : List Float) → ((i : ℕ) → i < n → pointInDomain (pointAt l i) ≡ true) → pointsInDomain n l ≡ true
+unfolding pointsInDomain
+points-pass n l h = all-to _ n h
+
+pub cell-passes : (g : Grid) → le oneF (g .cell) ≡ true → lt (g .cell) (inf false) ≡ true → eq (g .«inv_cell») (oneF ⊘ g .cell) ≡ true → cellRight g ≡ true
+unfolding cellRight
+cell-passes g a b c = simp (a, b, c)
+
+pub cells-pass : (s : Site) → 1 ≤ s .grid .cols → 1 ≤ s .grid .rows → cellsOf s ≤ 1048576 → cellsWithin s ≡ true
+unfolding cellsWithin
+cells-pass s a b c = simp (le-leb _ _ a, le-leb _ _ b, le-leb _ _ c)
+
+pub parts-pass : (n m : ℕ) (g : List ℕ) → ((k : ℕ) → k < n → firstOf g k + lenOf g k ≤ m) → partsInside n m g ≡ true
+unfolding partsInside
+parts-pass n m g h = all-to _ n (λ k q. le-leb _ _ (h k q))
+
 module _ (s : Site) (t : Tables) (h : Sound s t) where
   tables-pass : tablesLong s t ≡ true
   unfolding tablesLong
@@ -214,29 +234,13 @@ module _ (s : Site) (t : Tables) (h : Sound s t) where
         le-leb _ _ (h .items-long),
       )
 
-  counts-pass : countsWithin s ≡ true
-  unfolding countsWithin
-  counts-pass = simp (le-leb _ _ (h .few-polygons), le-leb _ _ (h .few-points))
-
   head-passes : headInDomain s ≡ true
   unfolding headInDomain
   head-passes = simp (h .width-in, h .height-in, h .origin-in)
 
-  points-pass : pointsInDomain (s .points) (t .points) ≡ true
-  unfolding pointsInDomain
-  points-pass = all-to _ (s .points) (h .point-in)
-
-  cell-passes : cellRight (s .grid) ≡ true
-  unfolding cellRight
-  cell-passes = simp (h .cell-least, h .cell-finite, h .inverse)
-
   boxes-pass : boxesRight (s .polygons) (t .points) (t .boxes) (t .polygons) ≡ true
   unfolding boxesRight boxRight
   boxes-pass = all-to _ (s .polygons) (h .box-right)
-
-  cells-pass : cellsWithin s ≡ true
-  unfolding cellsWithin
-  cells-pass = simp (le-leb _ _ (h .has-cols), le-leb _ _ (h .has-rows), le-leb _ _ (h .few-cells))
 
   never-falls : neverFall (cellsOf s) (t .starts) ≡ true
   unfolding neverFall
@@ -252,10 +256,6 @@ module _ (s : Site) (t : Tables) (h : Sound s t) where
   unfolding itemsRight itemRight
   items-pass = all-to _ (s .items) (λ i q. and-both _ _ (lt-ltb _ _ (h .item-below i q)) (le-leb _ _ (h .item-corners i q)))
 
-  parts-pass : partsInside (s .polygons) (s .points) (t .polygons) ≡ true
-  unfolding partsInside
-  parts-pass = all-to _ (s .polygons) (λ k q. le-leb _ _ (h .inside k q))
-
   owned-pass : allOwned (s .polygons) (s .points) (t .polygons) (t .owners) ≡ true
   unfolding allOwned owned
   owned-pass =
@@ -268,7 +268,16 @@ module _ (s : Site) (t : Tables) (h : Sound s t) where
 
   pub tested : soundOf s t ≡ true
   tested =
-      by-items s t tables-pass counts-pass head-passes points-pass cell-passes boxes-pass cells-pass starts-pass parts-pass owned-pass own-pass
+      by-items s t tables-pass
+      (counts-pass s (h .few-polygons) (h .few-points))
+      head-passes
+      (points-pass (s .points) (t .points) (h .point-in))
+      (cell-passes (s .grid) (h .cell-least) (h .cell-finite) (h .inverse))
+      boxes-pass
+      (cells-pass s (h .has-cols) (h .has-rows) (h .few-cells))
+      starts-pass
+      (parts-pass (s .polygons) (s .points) (t .polygons) (h .inside))
+      owned-pass own-pass
       ∙ items-pass
 
 -- ---- what a reader of the tables cites

@@ -1,5 +1,6 @@
 -- SOUND TABLES (document 01): one test for each line of the paragraph, in its order, and `soundOf`, all of them together. Refusal 6 is given
--- exactly where `soundOf` is false. Beside them the record `Sound`: what follows for whoever reads the tables (proofs/SoundLaws.antt).
+-- exactly where `soundOf` is false, and where points and polygons alone are lent (document 02, Q-6), where `soundPlain` is. Beside them the records `Sound` and `SoundPlain`: what follows for
+-- whoever reads the tables (proofs/SoundLaws.antt, proofs/PlainLaws.antt).
 -- Floats are compared as `==` compares them. Definitions only.
 use Prim.Native.Nat.{ℕ, _+_, _*_, _≤_, _<_}
 use mathlib.Core.Path.{_≡_}
@@ -108,6 +109,18 @@ soundOf site t =
     && allOwned (site .polygons) (site .points) (t .polygons) (t .owners)
     && allOwn (site .polygons) (t .polygons) (t .owners)
 
+-- WHAT IS TESTED OF IT WHERE POINTS AND POLYGONS ALONE ARE LENT: "points, polygons, cell, its inverse, origin, columns and rows only" (document 02, Q-6), in the same words
+unfoldable pub soundPlain : Site → List Float → List ℕ → Bool
+soundPlain site points polygons =
+    leb (pointStride * site .points) (length points)
+    && leb (polygonStride * site .polygons) (length polygons)
+    && countsWithin site
+    && pointInDomain (site .grid .origin)
+    && pointsInDomain (site .points) points
+    && cellRight (site .grid)
+    && cellsWithin site
+    && partsInside (site .polygons) (site .points) polygons
+
 -- ---- what that gives
 pub record Sound (site : Site) (t : Tables) : Type 0 where
   -- each slice is as long as its table
@@ -145,3 +158,19 @@ pub record Sound (site : Site) (t : Tables) : Type 0 where
   pub owner-first : (i : ℕ) → i < site .points → firstOf (t .polygons) (ownerAt (t .owners) i) ≤ i
   pub owner-end : (i : ℕ) → i < site .points → i < firstOf (t .polygons) (ownerAt (t .owners) i) + lenOf (t .polygons) (ownerAt (t .owners) i)
   pub one-owner : (k j : ℕ) → k < site .polygons → j < lenOf (t .polygons) k → ownerAt (t .owners) (firstOf (t .polygons) k + j) ≡ k
+
+-- and of points and polygons alone
+pub record SoundPlain (site : Site) (points : List Float) (polygons : List ℕ) : Type 0 where
+  pub points-long : pointStride * site .points ≤ length points
+  pub polygons-long : polygonStride * site .polygons ≤ length polygons
+  pub few-polygons : site .polygons ≤ 4096
+  pub few-points : site .points ≤ 65536
+  pub has-cols : 1 ≤ site .grid .cols
+  pub has-rows : 1 ≤ site .grid .rows
+  pub few-cells : cellsOf site ≤ 1048576
+  pub origin-in : pointInDomain (site .grid .origin) ≡ true
+  pub point-in : (i : ℕ) → i < site .points → pointInDomain (pointAt points i) ≡ true
+  pub cell-least : le oneF (site .grid .cell) ≡ true
+  pub cell-finite : lt (site .grid .cell) (inf false) ≡ true
+  pub inverse : eq (site .grid .«inv_cell») (oneF ⊘ site .grid .cell) ≡ true
+  pub inside : (k : ℕ) → k < site .polygons → firstOf polygons k + lenOf polygons k ≤ site .points

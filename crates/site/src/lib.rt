@@ -11,7 +11,7 @@ ghost use Prim.Native.Nat.{_-_, _<_};
 ghost use lib.ListN.{length};
 ghost use Rattle.site.specs.Tables.{tables, firstOf, lenOf, pointAt, ownerAt, startAt, itemAt, vertsOf, boxOf, edgeEndOf, edgeOf, cellsOf};
 ghost use Rattle.site.specs.Domain.{pointInDomain, boxInDomain, loadOf, loadPointOf, loadBoxOf};
-ghost use Rattle.site.specs.Soundness.{tablesLong, countsWithin, headInDomain, pointsInDomain, cellRight, sameBox, boxesRight, cellsWithin, neverFall, startsRight, itemRight, itemsRight, partsInside, owned, allOwned, owns, allOwn, soundOf};
+ghost use Rattle.site.specs.Soundness.{tablesLong, countsWithin, headInDomain, pointsInDomain, cellRight, sameBox, boxesRight, cellsWithin, neverFall, startsRight, itemRight, itemsRight, partsInside, owned, allOwned, owns, allOwn, soundOf, soundPlain};
 
 // How many numbers an entry has. A point: x, y. A box: min x, min y, max x, max y. A polygon: first, len.
 const POINT: usize = 2;
@@ -425,4 +425,34 @@ pub fn is_sound(
         return false;
     }
     items_right(site.items, site.polygons, polygons, items)
+}
+
+// Are points, polygons and the grid's numbers sound? The lines of document 01's "Sound tables" that speak of these alone, for calls that are lent no more (document 02,
+// Q-6). Owners are not lent, so that two polygons may hold the same points.
+pub fn is_sound_plain(site: Site, points: &[f64], polygons: &[u32]) -> bool
+    ensures { λ r. ⌜ r ≡ soundPlain site (now (points .entry)) (now (polygons .entry)) ⌝ }
+{
+    if points.len() < POINT * lists::wide(site.points) {
+        return false;
+    }
+    if polygons.len() < POLYGON * lists::wide(site.polygons) {
+        return false;
+    }
+    if !counts_within(site) {
+        return false;
+    }
+    let g = site.grid;
+    if !point_in_domain(g.origin) {
+        return false;
+    }
+    if !cell_right(g) {
+        return false;
+    }
+    if !cells_within(site) {
+        return false;
+    }
+    if !points_in_domain(site.points, points) {
+        return false;
+    }
+    parts_inside(site.polygons, site.points, polygons)
 }

@@ -16,7 +16,7 @@ use Rattle.lists.specs.Lists.{bit, counting}
 use Rattle.lists.specs.Members.{In, holds}
 use Rattle.lists.proofs.Cases.{eq-or-ne}
 use Rattle.lists.proofs.Counting.{counting-in, in-counting, filter-in, in-filter}
-use Rattle.lists.proofs.Members.{all-in, holds-in, in-holds}
+use Rattle.lists.proofs.Members.{all-in, holds-in, in-holds, in-map, from-map}
 use Rattle.geom.specs.Vec.{fromAngleOf}
 use Rattle.sorts.specs.Visible.{markedOf, Marks}
 use Rattle.sorts.proofs.Marks.{marks-none}
@@ -32,7 +32,7 @@ use Rattle.events.specs.Spots.{Spot}
 use Rattle.index.specs.Angular.{Index, indexOf}
 use Rattle.index.specs.Spans.{headOf}
 use Rattle.index.specs.Casting.{tiedOf}
-use Rattle.index.proofs.Hits.{in-map, from-map, tied-front}
+use Rattle.index.proofs.Hits.{tied-front}
 use Rattle.index.proofs.Lowest.{tied-hit}
 use Rattle.credit.proofs.Credits.{credits-rust, credits-answer, credits-tied, credits-every}
 use Rattle.outline.specs.declared.Trace.{Trace}
