@@ -300,6 +300,18 @@ unsafe extern "C" {
         head: &mut [f64; 6],
         counts: &mut [u32; 5],
     ) -> u32;
+    fn bf_scene_polygons_near_plain(
+        head: &[f64; 6],
+        counts: &[u32; 5],
+        points: *const f64,
+        points_len: usize,
+        polygons: *const u32,
+        polygons_len: usize,
+        b: &[f64; 4],
+        ids: *mut u32,
+        ids_len: usize,
+        tally: &mut [u64; 2],
+    ) -> u32;
 }
 
 /// Calls a function of a site, its head and tables in front.
@@ -459,6 +471,27 @@ impl Lent {
             ids.len(),
             &mut tally
         );
+        (status, tally)
+    }
+
+    /// The same from points and polygons alone: the status, ids written and entries counted.
+    pub fn polygons_near_plain(&self, b: &[f64; 4], ids: &mut [u32]) -> (u32, [u64; 2]) {
+        let mut tally = [u64::MAX; 2];
+        // SAFETY: as above.
+        let status = unsafe {
+            bf_scene_polygons_near_plain(
+                &self.head.floats,
+                &self.head.counts,
+                self.points.as_ptr(),
+                self.points.len(),
+                self.polygons.as_ptr(),
+                self.polygons.len(),
+                b,
+                ids.as_mut_ptr(),
+                ids.len(),
+                &mut tally,
+            )
+        };
         (status, tally)
     }
 

@@ -4,8 +4,10 @@
 
 pub mod bench;
 mod damage;
+mod edited;
 pub mod given;
 pub mod lines;
+mod near;
 mod ties;
 
 pub use bench::bench;
@@ -21,6 +23,7 @@ use crate::util::rng::SplitMix64;
 use crate::util::table::{Table, count};
 use crate::util::tally::{self, Tally, Value};
 use given::Given;
+use near::Engines;
 use oracle::{Aabb, Scene, SceneConfig, Stamps, Vec2, seam};
 
 pub fn compare() -> bool {
@@ -38,7 +41,8 @@ pub fn compare() -> bool {
     held.random();
     let built = held.print();
     let damaged = damage::compare();
-    ties::compare() && damaged && built
+    let edited = edited::compare();
+    ties::compare() && edited && damaged && built
 }
 
 // ---- what is compared and shown
@@ -143,6 +147,7 @@ struct Held {
     near: Tally,
     near_short: Tally,
     near_refused: Tally,
+    engines: Engines,
     items_at: Tally,
     polygon_at: Tally,
     cast_ray: Tally,
@@ -198,6 +203,7 @@ impl Held {
                 "8, ids zero, stamps the same",
             ]),
             near_refused: Tally::new(["polygons_near, faulty", "1 or 7, nothing written"]),
+            engines: Engines::new(),
             items_at: Tally::new(["items_at, items_at_number", "items_at, or 1"]),
             polygon_at: Tally::new(["polygon_at", "polygon_at, or 1"]),
             cast_ray: Tally::new(["cast_ray", "cast_ray, cells entered, or 1"]),
@@ -415,6 +421,7 @@ impl Held {
                 marks.fill_with(|| r.pick(&[0, 0, 1, epoch, next, any]));
             }
             let b = questions::asked_box(r, gridded, kind);
+            self.engines.ask(scene, site, &b);
             if !in_domain(&b) {
                 self.seen.outside += 1;
                 self.not_near(plan, site, b, &marks, epoch, 1);
@@ -924,6 +931,11 @@ impl Held {
             self.near,
             self.near_short,
             self.near_refused,
+            self.engines.rust.listed,
+            self.engines.rust.short,
+            self.engines.rust.refused,
+            self.engines.tables,
+            self.engines.cells,
             self.items_at,
             self.polygon_at,
             self.cast_ray,

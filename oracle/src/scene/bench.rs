@@ -1,7 +1,9 @@
 //! Timings of questions on random sites of 2000 by 2000: with the test of the tables that each call
 //! begins with, and without it, beside the Rust as published. Without it, points and rays are asked
 //! many in one call, as inner functions are used, and each question through a C call of its own, whose
-//! cost is then in the time.
+//! cost is then in the time. The engine without tables has a table of its own, in `engines`.
+
+mod engines;
 
 use super::given::{self, Given};
 use crate::lent::Lent;
@@ -57,6 +59,7 @@ impl Timed {
 }
 
 pub fn bench(table: &mut Bench) {
+    engines::print();
     let r = &mut SplitMix64::new(1_901);
     for polygons in SIZES {
         let timed = Timed::new(polygons);
@@ -229,18 +232,18 @@ fn cast_ray(table: &mut Bench, r: &mut SplitMix64, timed: &Timed, polygons: usiz
     }
 }
 
-fn near(table: &mut Bench, r: &mut SplitMix64, timed: &Timed, polygons: usize) {
-    let boxes: Vec<[f64; 4]> = some(FEW, || {
-        let (x, y) = (r.between(0.0, SIDE - 100.0), r.between(0.0, SIDE - 100.0));
-        [x, y, x + 100.0, y + 100.0]
-    });
-    let lent = RefCell::new((vec![0; polygons], 0, vec![0; 256]));
-    let ours = |b: [f64; 4]| {
-        let (marks, epoch, ids) = &mut *lent.borrow_mut();
-        timed.site.polygons_near(&b, marks, epoch, ids).1[0]
-    };
-    let own = RefCell::new((plain::Stamps::new(polygons), Vec::with_capacity(256)));
-    let rust = |[x0, y0, x1, y1]: [f64; 4]| {
+/// Boxes with sides of this length, anywhere in the site.
+fn boxes(r: &mut SplitMix64, side: f64) -> Vec<[f64; 4]> {
+    some(FEW, || {
+        let (x, y) = (r.between(0.0, SIDE - side), r.between(0.0, SIDE - side));
+        [x, y, x + side, y + side]
+    })
+}
+
+/// The Rust's box query: how many ids it lists, into a list with room for so many from the start.
+fn rust_near(timed: &Timed, polygons: usize, room: usize) -> impl Fn([f64; 4]) -> u64 {
+    let own = RefCell::new((plain::Stamps::new(polygons), Vec::with_capacity(room)));
+    move |[x0, y0, x1, y1]| {
         let (stamps, ids) = &mut *own.borrow_mut();
         ids.clear();
         let b = plain::Aabb::new(plain::Vec2::new(x0, y0), plain::Vec2::new(x1, y1));
@@ -248,13 +251,21 @@ fn near(table: &mut Bench, r: &mut SplitMix64, timed: &Timed, polygons: usize) {
             .rust
             .for_each_polygon_near(&b, stamps, |id| ids.push(id));
         ids.len() as u64
+    }
+}
+
+fn near(table: &mut Bench, r: &mut SplitMix64, timed: &Timed, polygons: usize) {
+    let lent = RefCell::new((vec![0; polygons], 0, vec![0; 256]));
+    let ours = |b: [f64; 4]| {
+        let (marks, epoch, ids) = &mut *lent.borrow_mut();
+        timed.site.polygons_near(&b, marks, epoch, ids).1[0]
     };
     table.add(
         &format!("`polygons_near`, 100 x 100, {polygons} polygons"),
         Limit::None,
-        &boxes,
+        &boxes(r, 100.0),
         ours,
-        rust,
+        rust_near(timed, polygons, 256),
     );
 }
 

@@ -1,9 +1,10 @@
 //! Damaged tables: sites of ours with some numbers changed at random. Every question is answered or
 //! refused, and refused 6 exactly where the check here, written from document 01's words alone, finds
-//! the tables unsound.
+//! the tables unsound. A box is asked of the engine without tables too, which refuses fewer of them.
 
 use super::given::{self, Given};
 use super::is_coordinate;
+use super::near::{self, Rows};
 use crate::lent::{Lent, PATTERN};
 use crate::sites;
 use crate::util::bits::step;
@@ -13,6 +14,27 @@ use crate::util::table::{Table, count, verdict};
 const QUESTIONS: u64 = 1_200_000;
 /// Questions of one damaged site.
 const EACH: u64 = 6;
+
+/// The box that a polygon's points give: empty if they are fewer than three.
+pub fn box_of(points: &[f64]) -> [f64; 4] {
+    let mut b = [
+        f64::INFINITY,
+        f64::INFINITY,
+        f64::NEG_INFINITY,
+        f64::NEG_INFINITY,
+    ];
+    if points.len() >= 6 {
+        for p in points.chunks_exact(2) {
+            b = [
+                b[0].min(p[0]),
+                b[1].min(p[1]),
+                b[2].max(p[0]),
+                b[3].max(p[1]),
+            ];
+        }
+    }
+    b
+}
 
 /// Document 01, "Sound tables", line by line.
 fn is_sound(s: &Lent) -> bool {
@@ -67,24 +89,7 @@ fn is_sound(s: &Lent) -> bool {
             }
             *holder = Some(k as u32);
         }
-        let corners = s.points[2 * first..2 * (first + len)].chunks_exact(2);
-        let mut b = [
-            f64::INFINITY,
-            f64::INFINITY,
-            f64::NEG_INFINITY,
-            f64::NEG_INFINITY,
-        ];
-        if len >= 3 {
-            for p in corners {
-                b = [
-                    b[0].min(p[0]),
-                    b[1].min(p[1]),
-                    b[2].max(p[0]),
-                    b[3].max(p[1]),
-                ];
-            }
-        }
-        if s.boxes[4 * k..4 * k + 4] != b {
+        if s.boxes[4 * k..4 * k + 4] != box_of(&s.points[2 * first..2 * (first + len)]) {
             return false;
         }
     }
@@ -127,7 +132,11 @@ fn float(r: &mut SplitMix64, old: f64) -> f64 {
     ])
 }
 
-fn some_of<T>(r: &mut SplitMix64, list: &mut [T], change: impl FnOnce(&mut SplitMix64, &mut T)) {
+pub fn some_of<T>(
+    r: &mut SplitMix64,
+    list: &mut [T],
+    change: impl FnOnce(&mut SplitMix64, &mut T),
+) {
     if !list.is_empty() {
         let i = r.below(list.len() as u64) as usize;
         change(r, &mut list[i]);
@@ -143,7 +152,7 @@ fn cut<T: Clone>(r: &mut SplitMix64, list: &mut Vec<T>, more: T) {
 }
 
 /// One number more, or one table a place shorter or longer.
-fn damage(r: &mut SplitMix64, s: &mut Lent) {
+pub fn damage(r: &mut SplitMix64, s: &mut Lent) {
     let words = |r: &mut SplitMix64, x: &mut u32| *x = number(r, *x);
     let floats = |r: &mut SplitMix64, x: &mut f64| *x = float(r, *x);
     match r.below(22) {
@@ -317,10 +326,137 @@ fn ask(r: &mut SplitMix64, c: &mut Counts, s: &Lent, sound: bool) {
     }
 }
 
+// ---- both engines of the box query
+
+type Differ = fn(&Lent, &Lent) -> bool;
+
+/// What the engine without tables is not lent or does not read, and whether two sites differ in it.
+const UNREAD: [(&str, Differ); 7] = [
+    ("starts", |a, b| a.starts != b.starts),
+    ("items", |a, b| a.items != b.items),
+    ("boxes", |a, b| a.boxes != b.boxes),
+    ("owners", |a, b| a.owners != b.owners),
+    ("width", |a, b| a.head.floats[0] != b.head.floats[0]),
+    ("height", |a, b| a.head.floats[1] != b.head.floats[1]),
+    ("number of items", |a, b| {
+        a.head.counts[4] != b.head.counts[4]
+    }),
+];
+
+/// All that it reads.
+fn reads_alike(a: &Lent, b: &Lent) -> bool {
+    a.points == b.points
+        && a.polygons == b.polygons
+        && a.head.floats[2..] == b.head.floats[2..]
+        && a.head.counts[..4] == b.head.counts[..4]
+}
+
+/// Which engine refuses a site as 6.
+struct Engines {
+    rows: Rows,
+    both: u64,
+    tables_alone: u64,
+    plain_alone: u64,
+    neither: u64,
+    /// Of those that only the tables' engine refuses: the points and all else that is read are as
+    /// they were built, and this part is not.
+    unread: [u64; UNREAD.len()],
+    read: u64,
+}
+
+impl Engines {
+    fn new() -> Self {
+        Self {
+            rows: Rows::by_cells("polygons_near_plain, damaged site"),
+            both: 0,
+            tables_alone: 0,
+            plain_alone: 0,
+            neither: 0,
+            unread: [0; UNREAD.len()],
+            read: 0,
+        }
+    }
+
+    fn ask(&mut self, r: &mut SplitMix64, built: &Lent, damaged: &Lent) {
+        let b = some_box(r);
+        let verdict = near::cell_by_cell(damaged, &b);
+        self.rows.ask(damaged, &b, &verdict);
+        let room = damaged.polygons.len();
+        let refused = |a: near::Answer| a.numbers[0] == 6;
+        let by_plain = refused(near::without_tables(damaged, &b, room));
+        let by_tables = refused(near::with_tables(damaged, &b, room));
+        match (by_plain, by_tables) {
+            (true, true) => self.both += 1,
+            (true, false) => self.plain_alone += 1,
+            (false, false) => self.neither += 1,
+            (false, true) => self.answered(verdict.is_ok(), built, damaged),
+        }
+    }
+
+    /// A site that the tables' engine refuses, and the other one does not.
+    fn answered(&mut self, in_domain: bool, built: &Lent, damaged: &Lent) {
+        self.tables_alone += 1;
+        if !in_domain {
+            return;
+        }
+        if !reads_alike(built, damaged) {
+            self.read += 1;
+            return;
+        }
+        for (n, (_, differ)) in self.unread.iter_mut().zip(UNREAD) {
+            *n += u64::from(differ(built, damaged));
+        }
+    }
+
+    fn print(self) -> bool {
+        let reached = self.unread.iter().chain([&self.both, &self.read]);
+        let right = reached.into_iter().all(|&n| n > 0) && self.plain_alone == 0;
+        let mut table = Table::new(&["damaged sites, by both engines of the box query", "count"]);
+        let mut row = |what: &str, n| table.row(vec![what.to_string(), count(n)]);
+        row("refused 6 by both", self.both);
+        row("refused 6 by neither", self.neither);
+        row("refused 6 without tables alone", self.plain_alone);
+        row("refused 6 with tables alone", self.tables_alone);
+        row(
+            "of these, answered over other points, polygons or head",
+            self.read,
+        );
+        for (n, (part, _)) in self.unread.iter().zip(UNREAD) {
+            row(
+                &format!("answered over points and polygons as built, the {part} damaged"),
+                *n,
+            );
+        }
+        table.row(vec!["verdict".to_string(), verdict(right)]);
+        table.print();
+        self.rows.print() && right
+    }
+}
+
+/// Some of them turned, of no area, over all of the site, and out of the domain.
+fn some_box(r: &mut SplitMix64) -> [f64; 4] {
+    let (x, y) = (r.between(-20.0, 120.0), r.between(-20.0, 120.0));
+    let (w, h) = (r.between(-3.0, 60.0), r.between(-3.0, 60.0));
+    let bad = r.pick(&[f64::NAN, f64::INFINITY, step(1e6, 1)]);
+    let near = [x, y, x + w, y + h];
+    r.pick(&[
+        near,
+        near,
+        near,
+        near,
+        [x, y, x, y],
+        [-1e6, -1e6, 1e6, 1e6],
+        [-0.0, -0.0, x, y],
+        [x, y, bad, y],
+    ])
+}
+
 pub fn compare() -> bool {
     let r = &mut SplitMix64::new(6_100);
+    let boxes = &mut SplitMix64::new(6_150);
     let groups = sites::groups();
     let mut c = Counts::default();
+    let mut engines = Engines::new();
     let mut turn = 0;
     while c.asked < QUESTIONS {
         let plan = (groups[turn % 9].make)(r);
@@ -353,6 +489,7 @@ pub fn compare() -> bool {
             for _ in 0..EACH {
                 ask(r, &mut c, &damaged, sound);
             }
+            engines.ask(boxes, &site, &damaged);
         }
     }
     let mut table = Table::new(&["damaged tables", "count"]);
@@ -370,5 +507,5 @@ pub fn compare() -> bool {
     if let Some(first) = c.first {
         println!("- {first}\n");
     }
-    c.wrong == 0
+    engines.print() && c.wrong == 0
 }

@@ -20,7 +20,7 @@ use oracle::{Scene, Stamps};
 
 /// Sites that are built, and questions of each function to each. Lines with a mode come after all others.
 const SITES: usize = 60;
-const QUESTIONS: [(u64, usize); 8] = [
+const QUESTIONS: [(u64, usize); 9] = [
     (602, 3),
     (603, 4),
     (604, 4),
@@ -28,6 +28,7 @@ const QUESTIONS: [(u64, usize); 8] = [
     (606, 2),
     (607, 2),
     (608, 1),
+    (609, 3),
     (701, 9),
 ];
 const MODED: [u64; 2] = [702, 703];
@@ -151,7 +152,14 @@ fn question(
     }
 }
 
-/// Sites and their questions, by rising number.
+/// The same box in the same room, without stamps.
+fn without_epoch(asked: &[u64]) -> Words {
+    let mut asked = asked.to_vec();
+    asked.remove(EPOCH[0]);
+    asked
+}
+
+/// Sites and their questions, by rising number; 609 asks the boxes of 602.
 fn built() -> String {
     let (r, views) = (&mut SplitMix64::new(9_601), &mut SplitMix64::new(9_701));
     let held = &mut Held::new();
@@ -163,12 +171,20 @@ fn built() -> String {
             &told(0, &given::of_scene(scene)),
         ]);
         let gridded = Gridded::of_scene(scene);
+        let mut boxes: Vec<Words> = Vec::new();
         for (number, times) in QUESTIONS {
             let r = if number == 701 { &mut *views } else { &mut *r };
             for k in 0..times {
-                let asked = question(r, held, scene, &gridded, number, times * i + k);
+                let asked = if number == 609 {
+                    without_epoch(&boxes[k])
+                } else {
+                    question(r, held, scene, &gridded, number, times * i + k)
+                };
                 let answer = rust_answer(scene, number, &asked);
                 text += &line(&[&[number], &asked, &answer]);
+                if number == 602 {
+                    boxes.push(asked);
+                }
             }
         }
     }
@@ -352,7 +368,7 @@ fn length(number: u64, words: &[u64]) -> Option<usize> {
         601 => after_list(words, after_list(words, 2)?),
         602 => Some(6),
         603 | 605 => Some(2),
-        604 => Some(5),
+        604 | 609 => Some(5),
         606 | 607 => Some(1),
         608 => Some(0),
         701 => Some(outlines::ARGUMENTS),
@@ -386,7 +402,13 @@ fn told(status: u32, site: &Lent) -> Words {
 }
 
 fn told_near(status: u32, tally: [u64; 2], epoch: u32, ids: &[u32]) -> Words {
-    let numbers = [status.into(), tally[0], tally[1], epoch.into()];
+    let mut told = told_near_plain(status, tally, ids);
+    told.insert(EPOCH[1], epoch.into());
+    told
+}
+
+fn told_near_plain(status: u32, tally: [u64; 2], ids: &[u32]) -> Words {
+    let numbers = [status.into(), tally[0], tally[1]];
     numbers.into_iter().chain(widened(ids)).collect()
 }
 
@@ -439,6 +461,9 @@ fn ray(words: &[u64]) -> Ray {
     }
 }
 
+/// Where the epoch stands among the arguments and the results of 602. 609 has the others.
+const EPOCH: [usize; 2] = [4, 3];
+
 /// The Rust's answer, or the refusal that document 01 numbers.
 fn rust_answer(scene: &Scene, number: u64, words: &[u64]) -> Words {
     match number {
@@ -454,6 +479,13 @@ fn rust_answer(scene: &Scene, number: u64, words: &[u64]) -> Words {
                     told_near(0, tally, after, &padded(&ids, room, 0))
                 }
             }
+        }
+        609 => {
+            let mut asked = words.to_vec();
+            asked.insert(EPOCH[0], 0);
+            let mut told = rust_answer(scene, 602, &asked);
+            told.remove(EPOCH[1]);
+            told
         }
         603 | 605 => {
             let [x, y]: [f64; 2] = floats(words);
@@ -526,6 +558,11 @@ fn our_look(site: &Lent, mode: u32, ray: Ray) -> Words {
 
 fn our_answer(site: &Lent, number: u64, words: &[u64]) -> Words {
     match number {
+        609 => {
+            let mut ids = vec![0; words[4] as usize];
+            let (status, tally) = site.polygons_near_plain(&floats(words), &mut ids);
+            told_near_plain(status, tally, &ids)
+        }
         602 => {
             let mut epoch = words[4] as u32;
             let (mut marks, mut ids) = ([0; POLYGONS], vec![0; words[5] as usize]);

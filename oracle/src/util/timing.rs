@@ -242,6 +242,22 @@ impl Bench {
     }
 }
 
+/// Best times of several sides, for each of so many questions that a run of theirs answers. They take
+/// turns, and all must answer the same.
+pub fn best_of<const N: usize>(questions: usize, sides: [&dyn Fn() -> u64; N]) -> [f64; N] {
+    let answers = sides.map(|side| side());
+    assert!(answers.iter().all(|a| *a == answers[0]), "{answers:?}");
+    let mut best = [f64::INFINITY; N];
+    let (begin, mut run) = (Instant::now(), 0);
+    while run < FEW_RUNS.fewest || begin.elapsed() < FEW_RUNS.time {
+        for (best, side) in best.iter_mut().zip(sides) {
+            *best = best.min(nanoseconds(questions, side));
+        }
+        run += 1;
+    }
+    best
+}
+
 /// How many times the Rust's time ours may take. It is no test: a busy machine may go over.
 #[derive(Clone, Copy)]
 pub enum Limit {
