@@ -169,7 +169,7 @@ fn quadrant_of(k: f64) -> f64
 }
 
 // A sine and a cosine.
-#[derive(Drop)]
+#[derive(Clone, Copy)]
 pub struct SinCos {
     pub sin: f64,
     pub cos: f64,

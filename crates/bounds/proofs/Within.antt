@@ -65,6 +65,16 @@ or_nan_wider a b (fin s m e) l h = le_trans h (mul-le-mul_right (down e) l)
 -- ---- bounds and the order: y is the number n, lo is -b and hi is b
 pub least_of_le : (n : ℕ) (x y : Float) → HasValue y false n 1 → T (le y x) → AtLeast n x
 unfolding le
+least_of_le n nan nan v h = elim v [ ]
+least_of_le n nan (inf _) v h = elim v [ ]
+least_of_le n (inf false) nan v h = elim v [ ]
+least_of_le n (inf false) (inf _) v h = elim v [ ]
+least_of_le n (inf true) nan v h = elim v [ ]
+least_of_le n (inf true) (inf _) v h = elim v [ ]
+least_of_le n (fin false m e) nan v h = elim v [ ]
+least_of_le n (fin false m e) (inf _) v h = elim v [ ]
+least_of_le n (fin true m e) nan v h = elim v [ ]
+least_of_le n (fin true m e) (inf _) v h = elim v [ ]
 least_of_le n nan (fin t k d) v h = h
 least_of_le n (inf true) (fin t k d) v h = h
 least_of_le n (inf false) (fin t k d) v h = tt
@@ -75,6 +85,16 @@ pub one_pos : 0 < 1
 one_pos = zero-lt-suc 0
 
 pub le_of_least : (n : ℕ) (x y : Float) → HasValue y false n 1 → AtLeast n x → T (le y x)
+le_of_least n nan nan v h = elim v [ ]
+le_of_least n nan (inf _) v h = elim v [ ]
+le_of_least n (inf false) nan v h = elim v [ ]
+le_of_least n (inf false) (inf _) v h = elim v [ ]
+le_of_least n (inf true) nan v h = elim v [ ]
+le_of_least n (inf true) (inf _) v h = elim v [ ]
+le_of_least n (fin false m e) nan v h = elim v [ ]
+le_of_least n (fin false m e) (inf _) v h = elim v [ ]
+le_of_least n (fin true m e) nan v h = elim v [ ]
+le_of_least n (fin true m e) (inf _) v h = elim v [ ]
 le_of_least n nan (fin t k d) v h = absurd h
 le_of_least n (inf true) (fin t k d) v h = absurd h
 le_of_least n (inf false) (fin t k d) v h = unfold le in tt
@@ -91,15 +111,23 @@ least_not_nan n (inf s) h = tt
 least_not_nan n (fin s m e) h = tt
 
 pub value_within : (n : ℕ) (y : Float) → HasValue y false n 1 → Within n y
+value_within n nan v = elim v [ ]
+value_within n (inf _) v = elim v [ ]
 value_within n (fin s k d) v = le_trans (le_of_eq (sym (mul-one (k * up d)))) (le_of_eq v.1)
 
 pub value_least : (n : ℕ) (y : Float) → HasValue y false n 1 → AtLeast n y
+value_least n nan v = elim v [ ]
+value_least n (inf _) v = elim v [ ]
 value_least n (fin true k d) v = absurd (true≢false v.0)
 value_least n (fin false k d) v = le_trans (le_of_eq (sym v.1)) (le_of_eq (mul-one (k * up d)))
 
 -- THE TWO TESTS, both ways: -b ≤ x and x ≤ b pass exactly where x is finite and from -b to b
 pub tests_within : (b : ℕ) (lo hi x : Float) → HasValue lo true b 1 → HasValue hi false b 1 → T (le lo x) → T (le x hi) → Within b x
 unfolding le
+tests_within b nan hi _ v w h i = elim v [ ]
+tests_within b (inf _) hi _ v w h i = elim v [ ]
+tests_within b (fin s k d) nan _ v w h i = elim w [ ]
+tests_within b (fin s k d) (inf _) _ v w h i = elim w [ ]
 tests_within b (fin s k d) (fin t l g) nan v w h i = absurd h
 tests_within b (fin s k d) (fin t l g) (inf true) v w h i = absurd h
 tests_within b (fin s k d) (fin t l g) (inf false) v w h i = absurd i
@@ -154,6 +182,10 @@ round_signed f s a c = subst (λ (z : Float). Signed s z) (sym (round_is f s a c
 under : (b : ℕ) (x y : Float) → Signed false x → HasValue y false b 1 → T (le x y) → Within b x
 unfolding le
 under b nan y p v h = p
+under b (inf false) nan p v h = elim v [ ]
+under b (inf false) (inf _) p v h = elim v [ ]
+under b (inf true) nan p v h = elim v [ ]
+under b (inf true) (inf _) p v h = elim v [ ]
 under b (inf true) (fin t n d) p v h = absurd (true≢false p)
 under b (inf false) (fin t n d) p v h = absurd h
 under b (fin t m e) y p v h = le_trans (le_of_eq (sym (mul-one (m * up e)))) (value_le (fin t m e) y false (m * up e) (down e) false b 1 (p, refl) v h)
@@ -270,6 +302,12 @@ some_left (suc x) c d D h = zero-lt-suc x
 pub div_share : (a c q : ℕ) (x y l : Float) → HasValue l false 1 c → a * c ≤ q → Held q → Within a x → T (le l y) → Within q (div binary64 x y)
 unfolding div le
 div_share a c q nan y l v g S h i = absurd h
+div_share a c q (fin s m e) nan nan v g S h i = elim v [ ]
+div_share a c q (fin s m e) nan (inf _) v g S h i = elim v [ ]
+div_share a c q (fin s m e) (inf false) nan v g S h i = elim v [ ]
+div_share a c q (fin s m e) (inf false) (inf _) v g S h i = elim v [ ]
+div_share a c q (fin s m e) (inf true) nan v g S h i = elim v [ ]
+div_share a c q (fin s m e) (inf true) (inf _) v g S h i = elim v [ ]
 div_share a c q (inf s) y l v g S h i = absurd h
 div_share a c q (fin s m e) nan (fin t k b) v g S h i = absurd i
 div_share a c q (fin s m e) (inf true) (fin t k b) v g S h i = absurd i

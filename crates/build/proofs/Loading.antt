@@ -21,6 +21,10 @@ use Rattle.site.specs.Domain.{load_of}
 sum_least : (x y : Float) → HasValue y false 0 1 → AtLeast 0 x → AtLeast 0 (add binary64 x y)
 unfolding add
 sum_least nan y v h = absurd h
+sum_least (inf false) nan v h = elim v [ ]
+sum_least (inf false) (inf _) v h = elim v [ ]
+sum_least (fin s m e) nan v h = elim v [ ]
+sum_least (fin s m e) (inf _) v h = elim v [ ]
 sum_least (inf true) y v h = absurd h
 sum_least (inf false) (fin t n d) v h = tt
 sum_least (fin s m e) (fin true n d) v h = absurd (true≢false v.0)

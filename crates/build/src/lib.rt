@@ -24,21 +24,21 @@ use grid::Grid;
 use site::Site;
 
 // The answer of the building: the site's head, or the refusal's number.
-#[derive(Drop)]
+#[derive(Clone, Copy)]
 pub enum Made {
     Site(Site),
     Refused(u32),
 }
 
 // What is decided before the first write.
-#[derive(Drop)]
+#[derive(Clone, Copy)]
 enum Plan {
     Go(Site),
     Refuse(u32),
 }
 
 // The lengths of the six lent tables.
-#[derive(Drop)]
+#[derive(Clone, Copy)]
 struct Rooms {
     pub points: usize,
     pub boxes: usize,
@@ -176,7 +176,7 @@ fn stored_box(given: &[f64], first: usize, len: usize) -> Aabb
 // ---- the grid
 
 // What the size of the cells is worked out from.
-#[derive(Drop)]
+#[derive(Clone, Copy)]
 struct Measured {
     pub bounds: Aabb,
     pub sides: Sides,

@@ -12,7 +12,7 @@ const MOST: usize = 16385;
 const ROOM: usize = 65536;
 
 // How many bytes of text follow, or that no case is left.
-#[derive(Drop)]
+#[derive(Clone, Copy)]
 enum Case {
     Text(usize),
     End,

@@ -18,7 +18,7 @@ const PI: f64 = 3.141592653589793;
 const FRAC_PI_2: f64 = 1.5707963267948966;
 
 // A circle of radius `range` around `origin`, or a sector of it.
-#[derive(Drop)]
+#[derive(Clone, Copy)]
 pub struct ViewCone {
     pub origin: Vec2,
     pub range: f64,
@@ -29,7 +29,7 @@ pub struct ViewCone {
 }
 
 // The numbers that an outline goes by: the origin, the range, whether the cone is full, the opening angle, and the angle at which it starts.
-#[derive(Drop)]
+#[derive(Clone, Copy)]
 pub struct View {
     pub o: Vec2,
     pub r: f64,
@@ -39,7 +39,7 @@ pub struct View {
 }
 
 // What `outline` answers: how many points the list holds, or the number of the refusal.
-#[derive(Drop)]
+#[derive(Clone, Copy)]
 pub enum Outlined {
     Points(usize),
     Refused(u32),

@@ -14,7 +14,7 @@ use room::{Event, Merged, Rooms};
 
 // The event that is open: its angle, corner and side so far, how many corners were kept aside before it and with it, and how many events are
 // closed.
-#[derive(Drop)]
+#[derive(Clone, Copy)]
 struct Open {
     angle: f64,
     vertex: u32,
@@ -25,14 +25,14 @@ struct Open {
 }
 
 // What going through the events comes to: the last one is still open, or there is no room for a corner.
-#[derive(Drop)]
+#[derive(Clone, Copy)]
 enum Gathering {
     Still(Open),
     Full,
 }
 
 // What merging answers: the entries of each list, and whether one passed the entries allowed to it.
-#[derive(Drop)]
+#[derive(Clone, Copy)]
 pub struct Merging {
     pub unmerged: usize,
     pub events: usize,

@@ -59,7 +59,7 @@ pub fn bounds_of(width: f64, height: f64, boxes: &[f64], n: usize) -> Aabb
 }
 
 // The larger sides of the boxes met so far that are not empty: their sum and their number.
-#[derive(Drop)]
+#[derive(Clone, Copy)]
 pub struct Sides {
     pub sum: f64,
     pub count: u64,

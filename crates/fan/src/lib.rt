@@ -16,21 +16,21 @@ use room::{Event, LocalEdge, NO_VERTEX, Rooms};
 const BOUNDARY_EPS: f64 = 1e-9;
 
 // An end of a front edge, and whether the view holds its angle: only then is it an event.
-#[derive(Drop)]
+#[derive(Clone, Copy)]
 struct End {
     event: Event,
     held: bool,
 }
 
 // What the view has of a polygon's edge: a front edge with its two ends, or nothing.
-#[derive(Drop)]
+#[derive(Clone, Copy)]
 enum Seen {
     Front(LocalEdge, End, End),
     Back,
 }
 
 // What one polygon edge gives: whether the post stands on it, and the front edge.
-#[derive(Drop)]
+#[derive(Clone, Copy)]
 struct Found {
     touch: bool,
     seen: Seen,
@@ -162,7 +162,7 @@ fn side(view: View, a: Vec2, b: Vec2, i: u32, j: u32) -> Found
 }
 
 // What was found so far.
-#[derive(Drop)]
+#[derive(Clone, Copy)]
 struct Tally {
     candidates: usize,
     edges: usize,
@@ -172,7 +172,7 @@ struct Tally {
 
 // What the scan answers: how many candidates, front edges and events there are, whether the post stands on an edge, and whether a list
 // passes its stated entries.
-#[derive(Drop)]
+#[derive(Clone, Copy)]
 pub struct Fan {
     pub candidates: usize,
     pub edges: usize,

@@ -15,7 +15,7 @@ ghost use Rattle.geom.specs.Ring.{crosses, point_in_polygon_of, signed_area_of};
 const TAU: f64 = 6.283185307179586;
 
 // A point or a vector in the plane.
-#[derive(Drop)]
+#[derive(Clone, Copy)]
 pub struct Vec2 {
     pub x: f64,
     // grows downward on screen
@@ -142,7 +142,7 @@ pub fn corner(points: &[f64], i: usize) -> Vec2
 }
 
 // A box along the axes.
-#[derive(Drop)]
+#[derive(Clone, Copy)]
 pub struct Aabb {
     pub min: Vec2,
     pub max: Vec2,
@@ -288,7 +288,7 @@ pub fn normalize_angle(a: f64) -> f64
 }
 
 // How far a ray goes until it meets a segment.
-#[derive(Drop)]
+#[derive(Clone, Copy)]
 pub enum Reach {
     Hit(f64),
     Miss,
@@ -332,7 +332,7 @@ pub fn ray_segment(origin: Vec2, dir: Vec2, a: Vec2, b: Vec2) -> Reach
 }
 
 // Where two segments meet.
-#[derive(Drop)]
+#[derive(Clone, Copy)]
 pub enum Meeting {
     At(Vec2),
     Nowhere,
@@ -369,7 +369,7 @@ pub fn segments_intersect(p1: Vec2, p2: Vec2, p3: Vec2, p4: Vec2) -> bool
 }
 
 // The part of a segment that lies in a disk, from one parameter to another, both from 0 to 1.
-#[derive(Drop)]
+#[derive(Clone, Copy)]
 pub enum Clip {
     Part(f64, f64),
     Outside,
@@ -421,7 +421,7 @@ pub fn clip_segment_to_disk(a: Vec2, b: Vec2, center: Vec2, radius: f64) -> Clip
 }
 
 // Up to two points.
-#[derive(Drop)]
+#[derive(Clone, Copy)]
 pub struct Meetings {
     pub first: Meeting,
     pub second: Meeting,

@@ -71,6 +71,8 @@ cross a b n d e D E h k =
 
 lt_reach : (n : ℕ) (a z : Float) → HasValue a false n 1 → Reach (n + 1) z → T (lt a z)
 unfolding lt
+lt_reach n nan z v r = elim v [ ]
+lt_reach n (inf _) z v r = elim v [ ]
 lt_reach n (fin true p g) z v r = absurd (true≢false v.0)
 lt_reach n (fin false p g) nan v r = absurd r
 lt_reach n (fin false p g) (inf s) v r = r
@@ -79,6 +81,10 @@ lt_reach n (fin false p g) (fin false m e) v r = lt→ltb (p * up g * down e) (m
 
 not_lt : (n k : ℕ) (a z : Float) → HasValue a false n 1 → HasValue z false k 1 → k ≤ n → T (lt a z) → ⊥
 unfolding lt
+not_lt n k nan z v w h t = elim v [ ]
+not_lt n k (inf _) z v w h t = elim v [ ]
+not_lt n k (fin false p g) nan v w h t = elim w [ ]
+not_lt n k (fin false p g) (inf _) v w h t = elim w [ ]
 not_lt n k (fin true p g) z v w h t = true≢false v.0
 not_lt n k (fin false p g) (fin true m e) v w h t = t
 not_lt n k (fin false p g) (fin false m e) v w h t =
@@ -109,12 +115,18 @@ le_count n b m e v =
 -- ---- -c, rounded: never above a whole number, and below zero exactly if c is not 0
 minus_at : (n : ℕ) (a z : Float) → HasValue a false n 1 → HasValue z true 0 1 → T (lt a z) → ⊥
 unfolding lt
+minus_at n nan z v w t = elim v [ ]
+minus_at n (inf _) z v w t = elim v [ ]
+minus_at n (fin false p g) nan v w t = elim w [ ]
+minus_at n (fin false p g) (inf _) v w t = elim w [ ]
 minus_at n (fin true p g) z v w t = true≢false v.0
 minus_at n (fin false p g) (fin false m e) v w t = false≢true w.0
 minus_at n (fin false p g) (fin true m e) v w t = t
 
 minus_far : (n : ℕ) (a z : Float) → HasValue a false n 1 → Reach 1 z → T (lt a (neg z)) → ⊥
 unfolding lt neg
+minus_far n nan z v r t = elim v [ ]
+minus_far n (inf _) z v r t = elim v [ ]
 minus_far n (fin true p g) z v r t = true≢false v.0
 minus_far n (fin false p g) nan v r t = r
 minus_far n (fin false p g) (inf true) v r t = r
@@ -134,6 +146,8 @@ none a d h = omega (arith, zero-mul d)
 
 zero_below : (z : Float) → HasValue z true 0 1 → T (lt z zero_f) → ⊥
 unfolding lt of_bits
+zero_below nan w t = elim w [ ]
+zero_below (inf _) w t = elim w [ ]
 zero_below (fin false m e) w t = false≢true w.0
 zero_below (fin true m e) w t = no (m * up e) (down e) w.1 (ltb→lt 0 (m * up e * 1 + 0 * 1 * down e) t)
   where
@@ -160,6 +174,8 @@ minus_below (suc c) =
 -- a number that is not negative stays so
 value_not_below : (k : ℕ) (z : Float) → HasValue z false k 1 → T (lt z zero_f) → ⊥
 unfolding lt of_bits
+value_not_below k nan w t = elim w [ ]
+value_not_below k (inf _) w t = elim w [ ]
 value_not_below k (fin true m e) w t = true≢false w.0
 value_not_below k (fin false m e) w t = none (m * up e * 1) (down e) (ltb→lt (m * up e * 1) (0 * 1 * down e) t)
 
@@ -213,6 +229,12 @@ fits53 n h = omega arith
 
 over_at : (n : ℕ) (a b y : Float) → n < 2 ^ 32 → HasValue a false n 1 → HasValue b false (n + 1) 1 → lt a (floor_of y) ≡ le b y
 unfolding floor_of lt le
+over_at n nan b nan h v w = elim v [ ]
+over_at n (inf _) b nan h v w = elim v [ ]
+over_at n nan b (inf _) h v w = elim v [ ]
+over_at n (inf _) b (inf _) h v w = elim v [ ]
+over_at n (fin s p g) nan (inf false) h v w = elim w [ ]
+over_at n (fin s p g) (inf _) (inf false) h v w = elim w [ ]
 over_at n (fin s p g) b nan h v w = same false (le b nan) (λ t. absurd t) (λ t. absurd (reach_of (n + 1) b nan (above_zero n) w t))
 over_at n (fin s p g) b (inf true) h v w = same false (le b (inf true)) (λ t. absurd t) (λ t. absurd (reach_of (n + 1) b (inf true) (above_zero n) w t))
 over_at n (fin s p g) (fin t q d) (inf false) h v w = refl
@@ -256,6 +278,8 @@ minus_fin_cast m e = refl
 
 minus_cast : (z : Float) → HasValue z true 0 1 → to_unsigned 64 z ≡ 0
 unfolding to_unsigned
+minus_cast nan w = elim w [ ]
+minus_cast (inf _) w = elim w [ ]
 minus_cast (fin false m e) w = absurd (false≢true w.0)
 minus_cast (fin true m e) w = minus_fin_cast m e
 

@@ -34,6 +34,10 @@ under m u e k v d n D h q =
 cast_under : (n : ℕ) (x hi : Float) → HasValue hi false n 1 → T (not (lt hi x)) → to_unsigned 64 x ≤ n
 unfolding to_unsigned lt
 cast_under n nan hi v t = zero-le
+cast_under n (inf false) nan v t = elim v [ ]
+cast_under n (inf false) (inf _) v t = elim v [ ]
+cast_under n (fin false m e) nan v t = elim v [ ]
+cast_under n (fin false m e) (inf _) v t = elim v [ ]
 cast_under n (inf true) hi v t = zero-le
 cast_under n (inf false) (fin s k d) v t = absurd t
 cast_under n (fin true m e) hi v t = zero-le
@@ -43,6 +47,8 @@ cast_under n (fin false m e) (fin false k d) v t = cap (m * up e / down e) (2 ^ 
 -- and so does n itself
 cast_value : (n : ℕ) (hi : Float) → HasValue hi false n 1 → to_unsigned 64 hi ≤ n
 unfolding to_unsigned
+cast_value n nan v = elim v [ ]
+cast_value n (inf _) v = elim v [ ]
 cast_value n (fin true k d) v = zero-le
 cast_value n (fin false k d) v = cap (k * up d / down d) (2 ^ 64 - 1) n (div-le_of_le-mul (down d) (le_of_eq (sym (mul-one (k * up d)) ∙ v.1 ∙ mul_comm n (down d))))
 

@@ -14,7 +14,7 @@ ghost use Rattle.grid.specs.Query.{Is, outcome, outcome_by, items_at};
 use geom::{Aabb, Vec2};
 
 // The Rust's `UniformGrid` without its two tables, `starts` and `items`.
-#[derive(Drop)]
+#[derive(Clone, Copy)]
 pub struct Grid {
     pub origin: Vec2,
     pub cell: f64,
@@ -24,14 +24,14 @@ pub struct Grid {
 }
 
 // What `dims` answers: the Rust's pair of columns and rows.
-#[derive(Drop)]
+#[derive(Clone, Copy)]
 pub struct Dims {
     pub cols: u32,
     pub rows: u32,
 }
 
 // Inclusive cell index range.
-#[derive(Drop)]
+#[derive(Clone, Copy)]
 pub struct CellRange {
     pub c0: u32,
     pub r0: u32,
@@ -40,7 +40,7 @@ pub struct CellRange {
 }
 
 // What `cell_range` answers: the Rust's `Option<CellRange>`.
-#[derive(Drop)]
+#[derive(Clone, Copy)]
 pub enum Range {
     Cells(CellRange),
     Nothing,
@@ -245,14 +245,14 @@ pub fn items_at_number(g: Grid, starts: &[u32], items: &[u32], p: Vec2) -> usize
 }
 
 // How many ids were met first, and how many entries were read.
-#[derive(Drop)]
+#[derive(Clone, Copy)]
 struct Tally {
     found: usize,
     read: usize,
 }
 
 // What a list writer answers: how many ids it wrote and how many entries it read, or the refusal's number.
-#[derive(Drop)]
+#[derive(Clone, Copy)]
 pub enum Listing {
     Listed { written: usize, read: usize },
     Refused(u32),

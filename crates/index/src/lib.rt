@@ -32,7 +32,7 @@ const STRIP: usize = 512;
 const UNSAID: u32 = 65535;
 
 // The head of an index. Its lists stand in the work room. The mode is that of its casts: 0 for the Rust's rule, 1 for ties credited.
-#[derive(Drop)]
+#[derive(Clone, Copy)]
 pub struct AngularIndex {
     pub inv_width: f64,
     pub buckets: u32,
@@ -40,21 +40,21 @@ pub struct AngularIndex {
 }
 
 // Buckets from one up to another, that one out. None where it ends where it begins, or before.
-#[derive(Drop)]
+#[derive(Clone, Copy)]
 pub struct Stretch {
     pub from: usize,
     pub to: usize,
 }
 
 // The buckets of an edge: two stretches where its span wraps past TAU.
-#[derive(Drop)]
+#[derive(Clone, Copy)]
 pub struct Spans {
     pub first: Stretch,
     pub second: Stretch,
 }
 
 // What the building answers: the head, how many references there are, and whether a list passes its entries.
-#[derive(Drop)]
+#[derive(Clone, Copy)]
 pub struct Indexed {
     pub index: AngularIndex,
     pub refs: usize,
@@ -139,7 +139,7 @@ fn span_buckets(x: AngularIndex, total: f64, start: f64, len: f64) -> Spans
 
 // The best hit so far: the distance to beat, the number of the edge once one is found, and whether a further one was met at exactly that distance,
 // which only counts in mode 1.
-#[derive(Drop)]
+#[derive(Clone, Copy)]
 pub struct Best {
     pub t: f64,
     pub edge: u32,
@@ -148,7 +148,7 @@ pub struct Best {
 }
 
 // The two ends of an edge.
-#[derive(Drop)]
+#[derive(Clone, Copy)]
 struct Ends {
     a: Vec2,
     b: Vec2,
@@ -261,7 +261,7 @@ fn stops(mode: u32, best: f64, near: f64) -> bool
 }
 
 // What a walk comes to: the best, and the words from one place up to another, which name the edges tested.
-#[derive(Drop)]
+#[derive(Clone, Copy)]
 pub struct Walked {
     pub best: Best,
     pub from: usize,

@@ -6,7 +6,7 @@ use crate::push;
 use libc::STDIN_FILENO;
 
 // A byte, or 256 at the end of the input, and what is left then.
-#[derive(Drop)]
+#[derive(Clone, Copy)]
 struct Byte {
     pub value: u32,
     pub at: usize,
@@ -66,7 +66,7 @@ fn longer(w: u64, d: u64) -> u64 {
 }
 
 // A line: how many words it has, whether the input ended before it did, and what is left of the chunk.
-#[derive(Drop)]
+#[derive(Clone, Copy)]
 pub struct Line {
     pub words: usize,
     pub end: bool,

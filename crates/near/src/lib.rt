@@ -54,7 +54,7 @@ fn cells_shared(s: Range, q: CellRange) -> Range
 // ---- the keys
 
 // How many keys there are, and how many cells are shared.
-#[derive(Drop)]
+#[derive(Clone, Copy)]
 struct Gathered {
     found: usize,
     cells: usize,

@@ -232,6 +232,10 @@ neg_neg (fin s m e) = ap (λ (b : Bool). fin b m e) (not-not s)
 
 -- ---- by exact values: x is ±a / c and y is ±b / d
 pub value_le : (x y : Float) (s : Bool) (a c : ℕ) (t : Bool) (b d : ℕ) → HasValue x s a c → HasValue y t b d → T (le x y) → Le s (a * d) t (b * c)
+value_le nan y s a c t b d v w h = elim v [ ]
+value_le (inf _) y s a c t b d v w h = elim v [ ]
+value_le (fin s' m e) nan s a c t b d v w h = elim w [ ]
+value_le (fin s' m e) (inf _) s a c t b d v w h = elim w [ ]
 value_le (fin s' m e) (fin t' n g) s a c t b d v w h =
     frac_trans s a c s (m * up e) (down e) t b d (down_pos e) (Le-eq s (a * down e) (m * up e * c) (sym v.1))
     (frac_trans s (m * up e) (down e) t (n * up g) (down g) t b d (down_pos g)
@@ -239,6 +243,10 @@ value_le (fin s' m e) (fin t' n g) s a c t b d v w h =
     (Le-eq t (n * up g * d) (b * down g) w.1))
 
 pub le_value : (x y : Float) (s : Bool) (a c : ℕ) (t : Bool) (b d : ℕ) → 0 < c → 0 < d → HasValue x s a c → HasValue y t b d → Le s (a * d) t (b * c) → T (le x y)
+le_value nan y s a c t b d C D v w h = elim v [ ]
+le_value (inf _) y s a c t b d C D v w h = elim v [ ]
+le_value (fin s' m e) nan s a c t b d C D v w h = elim w [ ]
+le_value (fin s' m e) (inf _) s a c t b d C D v w h = elim w [ ]
 le_value (fin s' m e) (fin t' n g) s a c t b d C D v w h =
     fin_said s' m e t' n g
     (subst (λ (z : Bool). Le z (m * up e * down g) t' (n * up g * down e)) (sym v.0) (subst (λ (z : Bool). Le s (m * up e * down g) z (n * up g * down e)) (sym w.0)

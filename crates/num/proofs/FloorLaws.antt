@@ -127,6 +127,8 @@ cut_small m e h = round_whole binary64 false (m * up e / down e) (le (m * up e /
 -- of a float z that is n in size, and m * 2 ^ e
 eq_says : (z : Float) (n m : ℕ) (e : ℤ) → HasValue z false n 1 → eq z (fin false m e) ≡ true → m * up e ≡ n * down e
 unfolding eq
+eq_says nan n m e v h = elim v [ ]
+eq_says (inf _) n m e v h = elim v [ ]
 eq_says (fin s a g) n m e v h =
     eq_of_mul-eq-mul_right (down g) (down_pos g) (m * up e) (n * down e)
     (sym (eqb→eq (a * up g * down e) (m * up e * down g) (and_l (eqb (a * up g * down e) (m * up e * down g)) _ (yes h)))
@@ -134,6 +136,8 @@ eq_says (fin s a g) n m e v h =
 
 eq_of : (z : Float) (n m : ℕ) (e : ℤ) → HasValue z false n 1 → m * up e ≡ n * down e → T (eq z (fin false m e))
 unfolding eq
+eq_of nan n m e v h = elim v [ ]
+eq_of (inf _) n m e v h = elim v [ ]
 eq_of (fin true a g) n m e v h = absurd (true≢false v.0)
 eq_of (fin false a g) n m e v h =
     and_i (eqb (a * up g * down e) (m * up e * down g)) true

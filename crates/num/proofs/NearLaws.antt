@@ -21,6 +21,8 @@ units_are s n d t =
     (p.0, ap (λ (x : ℕ). x / down d) (mul_assoc n (up d) (2 ^ 1074) ∙ ap (λ (x : ℕ). n * x) p.1 ∙ sym (mul_assoc n (2 ^ p.0) (down d))) ∙ mul-div_cancel (n * 2 ^ p.0) (down_pos d))
 
 pub units_of_value : (v : Float) (s : Bool) (a : ℕ) → HasValue v s a (2 ^ 1074) → in_units v ≡ a
+units_of_value lib.Ieee.nan s a h = elim h [ ]
+units_of_value (lib.Ieee.inf _) s a h = elim h [ ]
 units_of_value (fin t m e) s a h = ap (λ (x : ℕ). x / down e) h.1 ∙ mul-div_cancel a (down_pos e)
 
 -- ---- the floats at and above 2 ^ 53 * w are multiples of 2 * w, with w = 2 ^ u; those below are at most (2 ^ 53 - 1) * w
@@ -236,6 +238,8 @@ value_at n h a b c =
     capped p l = omega arith
 
 positive_is : (v : Float) (a c : ℕ) → HasValue v false a c → (m : ℕ) × (e : ℤ) × (v ≡ fin false m e)
+positive_is lib.Ieee.nan a c h = elim h [ ]
+positive_is (lib.Ieee.inf _) a c h = elim h [ ]
 positive_is (fin s m e) a c h = (m, e, λ i. fin (h.0 i) m e)
 
 abbrev pub Rooted : ℕ → ℤ → Type 0

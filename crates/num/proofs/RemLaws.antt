@@ -91,6 +91,8 @@ rem_exact s t m e n d fx fy p =
 neg_add : (x : Float) (r C : ℕ) (n : ℕ) (d : ℤ) (b : ℕ) → 0 < C → HasValue x true r C → n * up d * C ≡ b * down d → r < b
     → add binary64 x (fin false n d) ≡ round binary64 false (b - r) C
 unfolding add sum
+neg_add nan r C n d b Cp v h l = elim v [ ]
+neg_add (inf _) r C n d b Cp v h l = elim v [ ]
 neg_add (fin false m e) r C n d b Cp v h l = absurd (false≢true v.0)
 neg_add (fin true m e) r C n d b Cp v h l =
     let p = m * up e * down d in
@@ -108,6 +110,8 @@ neg_add (fin true m e) r C n d b Cp v h l =
 -- ---- the sign of an exact value
 value_below : (x : Float) (r C : ℕ) → 0 < C → 0 < r → HasValue x true r C → T (lt x nought)
 unfolding lt
+value_below nan r C Cp rp v = elim v [ ]
+value_below (inf _) r C Cp rp v = elim v [ ]
 value_below (fin false m e) r C Cp rp v = absurd (false≢true v.0)
 value_below (fin true m e) r C Cp rp v = lt→ltb 0 (m * up e * 1 + 0 * 1 * down e) (pos_sum (m * up e) (0 * 1 * down e) (lib.Ieee.Positive.first_pos (m * up e) C (subst (λ (z : ℕ). 0 < z) (sym v.1) (mul-pos rp (down_pos e)))))
   where
@@ -115,6 +119,8 @@ value_below (fin true m e) r C Cp rp v = lt→ltb 0 (m * up e * 1 + 0 * 1 * down
     pos_sum a b h = omega arith
 
 value_not_below : (x : Float) (r C : ℕ) → HasValue x false r C → T (not (lt x nought))
+value_not_below nan r C v = elim v [ ]
+value_not_below (inf _) r C v = elim v [ ]
 value_not_below (fin true m e) r C v = absurd (true≢false v.0)
 value_not_below (fin false m e) r C v = not_T (lt (fin false m e) nought) (λ t. not_negative m e (is_true (lt (fin false m e) nought) t))
 

@@ -11,6 +11,8 @@ use Rattle.num.proofs.RootLaws.{root_below, root_is, key, round_root, scaled_low
 -- ---- the bit pattern of r * 2 ^ k units, for an r of 53 digits
 pub bits_of : (v : Float) (r k : ℕ) → 2 ^ 52 ≤ r → r < 2 ^ 53 → HasValue v false (r * 2 ^ k) (2 ^ 1074) → to_bits binary64 v ≡ k * 4503599627370496 + r
 unfolding to_bits
+bits_of lib.Ieee.nan r k a b h = elim h [ ]
+bits_of (lib.Ieee.inf _) r k a b h = elim h [ ]
 bits_of (fin true m e) r k a b h = absurd (true≢false h.0)
 bits_of (fin false m e) r k a b h =
     let n : m * up e * 2 ^ 1074 / down e ≡ r * 2 ^ k = ap (λ (x : ℕ). x / down e) h.1 ∙ mul-div_cancel (r * 2 ^ k) (down_pos e) in

@@ -22,6 +22,8 @@ use Rattle.num.proofs.NearLaws.{same_bits}
 
 -- ---- a float of the format is its own fraction, rounded
 same_float : (v : Float) (s : Bool) (m : ℕ) (e : ℤ) → T (fits binary64 v) → T (fits binary64 (fin s m e)) → HasValue v s (m * up e) (down e) → v ≡ fin s m e
+same_float nan s m e f g h = elim h [ ]
+same_float (inf _) s m e f g h = elim h [ ]
 same_float (fin t n d) s m e f g h =
     let z : fin t n d ≡ fin s n d = ap (λ (b : Bool). fin b n d) h.0 in
     let w = 2 ^ 1074 in

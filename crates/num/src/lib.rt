@@ -110,7 +110,7 @@ fn is_minus_zero(x: f64) -> bool
 }
 
 // What a comparison answers, as `std::cmp::Ordering`.
-#[derive(Drop)]
+#[derive(Clone, Copy)]
 pub enum Order {
     Less,
     Equal,

@@ -12,7 +12,7 @@ pub const CORNER: u32 = 4294967295;
 
 // How far a run has come: its points, the entries of the Rust's `owners`, the casts made by refining, and the tags of the last two points. The flag
 // stands between the tags: at the end it would leave seven bytes free, which are slow to copy from turn to turn.
-#[derive(Drop)]
+#[derive(Clone, Copy)]
 pub struct Trace {
     pub points: usize,
     pub owners: usize,
@@ -23,7 +23,7 @@ pub struct Trace {
 }
 
 // Where a point goes: nowhere, over the last one as a corner, over the last one of its edge, behind the last one, or past the room.
-#[derive(Drop)]
+#[derive(Clone, Copy)]
 pub enum Place {
     Skip,
     Corner,

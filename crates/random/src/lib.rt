@@ -14,7 +14,7 @@ use geom::Vec2;
 use rng::Rng;
 
 // Settings of a random site.
-#[derive(Drop)]
+#[derive(Clone, Copy)]
 pub struct SceneConfig {
     pub width: f64,
     pub height: f64,
@@ -42,7 +42,7 @@ const TAU: f64 = 6.283185307179586;
 const PALETTE_LEN: u64 = 10;
 
 // What is drawn of a polygon before its points, and the generator then.
-#[derive(Drop)]
+#[derive(Clone, Copy)]
 struct Head {
     rng: Rng,
     count: u64,
@@ -51,7 +51,7 @@ struct Head {
 }
 
 // A point, and the generator after it.
-#[derive(Drop)]
+#[derive(Clone, Copy)]
 struct Corner {
     rng: Rng,
     at: Vec2,

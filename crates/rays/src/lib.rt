@@ -15,14 +15,14 @@ use site::Cast;
 const TAU: f64 = 6.283185307179586;
 
 // The angle of a ray, and whether it lies in the view.
-#[derive(Drop)]
+#[derive(Clone, Copy)]
 struct Aim {
     kept: bool,
     angle: f64,
 }
 
 // What the sampling answers: how many samples there are, and whether they pass their entries.
-#[derive(Drop)]
+#[derive(Clone, Copy)]
 pub struct Rays {
     pub samples: usize,
     pub over: bool,

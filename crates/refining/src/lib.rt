@@ -17,14 +17,14 @@ use site::Cast;
 const TAU: f64 = 6.283185307179586;
 
 // One end of a gap: its angle, and the edge hit there.
-#[derive(Drop)]
+#[derive(Clone, Copy)]
 pub struct End {
     pub angle: f64,
     pub edge: u32,
 }
 
 // What a crossing comes to: none lies between the ends, it is seen, or a third edge hides it. Then there is a point of that edge, at an angle.
-#[derive(Drop)]
+#[derive(Clone, Copy)]
 pub enum Turn {
     Stop,
     Open(Vec2),

@@ -1,7 +1,7 @@
 // What a call of numbers answers: a few words, the rest 0.
 use lines::{pattern, push, wide};
 
-#[derive(Drop)]
+#[derive(Clone, Copy)]
 pub struct Answer {
     pub count: usize,
     pub words: [u64; 5],

@@ -15,7 +15,7 @@ fn print(text: &[u8]) {
 }
 
 // How far the replay is. The lines of one function stand together, so a change of number is a new function.
-#[derive(Drop)]
+#[derive(Clone, Copy)]
 struct Tally {
     pub lines: u64,
     pub functions: u64,

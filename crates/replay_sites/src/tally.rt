@@ -3,7 +3,7 @@ use lines::input::Line;
 use lines::one_if_not;
 
 // The first site is asked in the order of the functions' numbers, so a number above all before is a new function.
-#[derive(Drop)]
+#[derive(Clone, Copy)]
 pub struct Tally {
     pub lines: u64,
     pub functions: u64,
@@ -13,7 +13,7 @@ pub struct Tally {
 }
 
 // What was counted before a line, and that line.
-#[derive(Drop)]
+#[derive(Clone, Copy)]
 pub struct Place {
     pub tally: Tally,
     pub line: Line,

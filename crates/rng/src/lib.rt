@@ -4,18 +4,18 @@ ghost use Rattle.std.specs.Prelude.{◌≡◌, ◌*◌, ◌/◌, ◌%◌, ◌^�
 ghost use Rattle.rng.specs.Rng.{new_of, next_u64_of, next_f64_of, range_of};
 
 // The generator's state, one number.
-#[derive(Drop)]
+#[derive(Clone, Copy)]
 pub struct Rng(pub u64);
 
 // What `next_u64` and `range` hand back.
-#[derive(Drop)]
+#[derive(Clone, Copy)]
 pub struct Draw {
     pub rng: Rng,
     pub value: u64,
 }
 
 // What `next_f64` hands back.
-#[derive(Drop)]
+#[derive(Clone, Copy)]
 pub struct Fraction {
     pub rng: Rng,
     pub value: f64,

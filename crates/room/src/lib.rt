@@ -14,7 +14,7 @@ use site::Cast;
 
 // How many entries the caller allows to each list: ids of the box query, front edges, unmerged events, kept-aside corners, samples, bucket
 // starts, angular references, owners, and corners seen at one event.
-#[derive(Drop)]
+#[derive(Clone, Copy)]
 pub struct Rooms {
     pub ids: u32,
     pub edges: u32,
@@ -34,7 +34,7 @@ pub const NO_VERTEX: u32 = 4294967295;
 pub const ANGLE_EPS: f64 = 1e-8;
 
 // A front-facing edge clipped to the range circle.
-#[derive(Drop)]
+#[derive(Clone, Copy)]
 pub struct LocalEdge {
     pub a: Vec2,
     pub b: Vec2,
@@ -47,7 +47,7 @@ pub struct LocalEdge {
 }
 
 // An angle at which the nearest edge can change. The corner itself is not stored: it is the point of its number, bit for bit.
-#[derive(Drop)]
+#[derive(Clone, Copy)]
 pub struct Event {
     pub angle: f64,
     pub vertex: u32,
@@ -55,7 +55,7 @@ pub struct Event {
 }
 
 // An event after merging, with the number of kept-aside corners up to and with its own.
-#[derive(Drop)]
+#[derive(Clone, Copy)]
 pub struct Merged {
     pub angle: f64,
     pub vertex: u32,
@@ -64,7 +64,7 @@ pub struct Merged {
 }
 
 // One ray: its angle, its event, 0 before the event, 1 at it and 2 after it, and what the cast answers.
-#[derive(Drop)]
+#[derive(Clone, Copy)]
 pub struct Sample {
     pub angle: f64,
     pub event: u32,

@@ -19,61 +19,61 @@ use site::{Cast, Site};
 // ---- what the calls answer. Each refusal carries its number.
 
 // A width or a height.
-#[derive(Drop)]
+#[derive(Clone, Copy)]
 pub enum Extent {
     Of(f64),
     Refused(u32),
 }
 
-#[derive(Drop)]
+#[derive(Clone, Copy)]
 pub enum Region {
     Of(Aabb),
     Refused(u32),
 }
 
-#[derive(Drop)]
+#[derive(Clone, Copy)]
 pub enum GridDims {
     Of { cols: u32, rows: u32 },
     Refused(u32),
 }
 
 // The Rust's `Polygon`, without its centre and colour.
-#[derive(Drop)]
+#[derive(Clone, Copy)]
 pub enum Shape {
     Polygon { first: u32, len: u32, aabb: Aabb },
     Refused(u32),
 }
 
 // The ends of an edge.
-#[derive(Drop)]
+#[derive(Clone, Copy)]
 pub enum Segment {
     Ends { a: Vec2, b: Vec2 },
     Refused(u32),
 }
 
 // The number of a point or a polygon.
-#[derive(Drop)]
+#[derive(Clone, Copy)]
 pub enum Index {
     At(u32),
     Refused(u32),
 }
 
 // How many entries the part has that the call beside it hands back.
-#[derive(Drop)]
+#[derive(Clone, Copy)]
 pub enum Count {
     Number(usize),
     Refused(u32),
 }
 
 // Have the stamps been made new?
-#[derive(Drop)]
+#[derive(Clone, Copy)]
 pub enum Stamps {
     New,
     Refused(u32),
 }
 
 // The polygon at a point.
-#[derive(Drop)]
+#[derive(Clone, Copy)]
 pub enum Found {
     Id(u32),
     Nobody,
@@ -81,7 +81,7 @@ pub enum Found {
 }
 
 // What a cast sees: the nearest hit or a miss, and how many cells it entered.
-#[derive(Drop)]
+#[derive(Clone, Copy)]
 pub enum Look {
     Seen { hit: Cast, cells: usize },
     Refused(u32),

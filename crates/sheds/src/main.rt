@@ -14,7 +14,7 @@ fn print(text: &[u8]) {
 }
 
 // How deep the first of the two sheds is, and the second.
-#[derive(Drop)]
+#[derive(Clone, Copy)]
 struct Depths {
     first: f64,
     second: f64,

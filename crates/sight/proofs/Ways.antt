@@ -45,11 +45,11 @@ module _ (points boxes : List Float) (polygons : List ℕ) (p : Vec2) (id : ℕ)
   box_with e v s f g = let k : contains_of (box_at boxes id) p ≡ true = cc in rw k (g ∙ ap (point_in_polygon_of p) f)
 
 -- ---- `polygon_at`
-pub in_Cell
+pub in_cell
     : (g : Grid) (points boxes : List Float) (polygons starts items : List ℕ) (p : Vec2) (ids : List ℕ) (w : Whose)
     → w ≡ highest (filter (holds_point points boxes polygons p) ids) → ids ≡ items_at g p starts items → w ≡ polygon_at_of g points boxes polygons starts items p
 unfolding polygon_at_of
-in_Cell g points boxes polygons starts items p ids w e f = rw (← f) e
+in_cell g points boxes polygons starts items p ids w e f = rw (← f) e
 
 -- ---- `higher`
 module _ (w : Whose) (id : ℕ) where

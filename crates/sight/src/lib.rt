@@ -36,7 +36,7 @@ fn ray_hits_aabb(o: Vec2, inv: Vec2, b: Aabb, t_max: f64) -> bool
 // ---- the polygon at a point
 
 // The polygon that holds a point: the Rust's `Option<u32>`.
-#[derive(Drop)]
+#[derive(Clone, Copy)]
 pub enum Whose {
     Id(u32),
     Nobody,
@@ -116,7 +116,7 @@ pub fn polygon_at(
 // ---- a ray
 
 // A ray: where it starts, its direction, and 1 / d for each axis.
-#[derive(Drop)]
+#[derive(Clone, Copy)]
 struct Ray {
     o: Vec2,
     d: Vec2,
@@ -124,28 +124,28 @@ struct Ray {
 }
 
 // The nearest hit so far: the Rust's `best_t`, the ray's length while there is none, and the hit itself.
-#[derive(Drop)]
+#[derive(Clone, Copy)]
 struct Best {
     t: f64,
     hit: Cast,
 }
 
 // The Rust's tiny mailbox, `recent` and `slot`: the ids of the last eight polygons tested, and how many places of it were filled last.
-#[derive(Drop)]
+#[derive(Clone, Copy)]
 struct Recent {
     ids: [u32; 8],
     slot: u32,
 }
 
 // What the walk carries from polygon to polygon.
-#[derive(Drop)]
+#[derive(Clone, Copy)]
 struct Look {
     best: Best,
     recent: Recent,
 }
 
 // What a cast answers: the nearest hit, and how many cells the walk entered.
-#[derive(Drop)]
+#[derive(Clone, Copy)]
 pub struct Sighting {
     pub hit: Cast,
     pub cells: usize,

@@ -19,7 +19,7 @@ const BOX: usize = 4;
 const POLYGON: usize = 2;
 
 // The head of a site: the Rust's `Scene` without its vectors. The last three say how much of each lent slice is the table.
-#[derive(Drop)]
+#[derive(Clone, Copy)]
 pub struct Site {
     pub width: f64,
     pub height: f64,
@@ -30,14 +30,14 @@ pub struct Site {
 }
 
 // What a cast answers: the distance and the number of the edge that is hit, or a miss. The Rust's `Option<RayHit>`.
-#[derive(Drop)]
+#[derive(Clone, Copy)]
 pub enum Cast {
     Hit(f64, u32),
     Miss,
 }
 
 // The end points of an edge: the pair that the Rust's `edge` answers.
-#[derive(Drop)]
+#[derive(Clone, Copy)]
 pub struct Ends {
     pub a: Vec2,
     pub b: Vec2,

@@ -19,7 +19,7 @@ use room::Rooms;
 
 // An outline: whether the post is blocked, whether the cone is full, how many points and visible ids stand in the output slices, and the counts of the
 // Rust's statistics.
-#[derive(Drop)]
+#[derive(Clone, Copy)]
 pub struct Shown {
     pub blocked: bool,
     pub full: bool,
@@ -33,14 +33,14 @@ pub struct Shown {
 }
 
 // What the call answers. A refusal carries its number.
-#[derive(Drop)]
+#[derive(Clone, Copy)]
 pub enum Visibility {
     Seen(Shown),
     Refused(u32),
 }
 
 // The front edges and merged events of the candidates.
-#[derive(Drop)]
+#[derive(Clone, Copy)]
 struct Gathering {
     candidates: usize,
     edges: usize,
@@ -50,7 +50,7 @@ struct Gathering {
 }
 
 // The index of the edges, and how many rays are cast.
-#[derive(Drop)]
+#[derive(Clone, Copy)]
 struct Casting {
     index: AngularIndex,
     samples: usize,
@@ -58,7 +58,7 @@ struct Casting {
 }
 
 // What the sweep leaves in the output slices.
-#[derive(Drop)]
+#[derive(Clone, Copy)]
 struct Tracing {
     points: usize,
     visible: usize,

@@ -26,7 +26,7 @@ use site::Cast;
 const TAU: f64 = 6.283185307179586;
 
 // The sample that follows: after the last one the first, a turn later, in a full circle, and none in a sector.
-#[derive(Drop)]
+#[derive(Clone, Copy)]
 enum Next {
     To(Sample),
     Last,

@@ -20,7 +20,7 @@ use site::Site;
 use stages::Visibility;
 
 // What a post comes to before its stages: nothing is seen, it stands inside a polygon, or the polygons near a box are looked at.
-#[derive(Drop)]
+#[derive(Clone, Copy)]
 pub enum Plan {
     Empty,
     Inside,

@@ -12,14 +12,14 @@ use geom::Vec2;
 use grid::Grid;
 
 // The part of the ray inside the slabs tested so far, from one t to another.
-#[derive(Drop)]
+#[derive(Clone, Copy)]
 enum Span {
     Part(f64, f64),
     Nowhere,
 }
 
 // The Rust's `step` of 1, -1 or 0.
-#[derive(Drop)]
+#[derive(Clone, Copy)]
 pub enum Turn {
     Up,
     Down,
@@ -27,7 +27,7 @@ pub enum Turn {
 }
 
 // One axis of the walk: which way, the t of the first boundary crossing, the t between crossings.
-#[derive(Drop)]
+#[derive(Clone, Copy)]
 pub struct Axis {
     pub turn: Turn,
     pub next: f64,
@@ -35,7 +35,7 @@ pub struct Axis {
 }
 
 // What does not change on the way: the grid's columns and rows, the two axes, the t where the ray ends.
-#[derive(Drop)]
+#[derive(Clone, Copy)]
 pub struct Course {
     pub cols: u32,
     pub rows: u32,
@@ -45,7 +45,7 @@ pub struct Course {
 }
 
 // A cell on the way: the t of the next crossing on each axis, and the t of entering.
-#[derive(Drop)]
+#[derive(Clone, Copy)]
 pub struct Place {
     pub col: u32,
     pub row: u32,
@@ -54,20 +54,20 @@ pub struct Place {
     pub enter: f64,
 }
 
-#[derive(Drop)]
+#[derive(Clone, Copy)]
 pub enum Start {
     From(Course, Place),
     Miss,
 }
 
-#[derive(Drop)]
+#[derive(Clone, Copy)]
 pub enum Step {
     Next(Place),
     Stop,
 }
 
 // A column or row after a step.
-#[derive(Drop)]
+#[derive(Clone, Copy)]
 enum Index {
     At(u32),
     Off,

@@ -27,46 +27,46 @@ const MAX_POLYGONS: usize = 64;
 const MAX_POINTS: usize = 512;
 
 // What is read at a cursor: a value with the next cursor, or that the text is not as laid out.
-#[derive(Drop)]
+#[derive(Clone, Copy)]
 pub enum Run {
     Digits(u64, usize),
     Wrong,
 }
 
-#[derive(Drop)]
+#[derive(Clone, Copy)]
 pub enum Number {
     Read(f64, usize),
     Wrong,
 }
 
-#[derive(Drop)]
+#[derive(Clone, Copy)]
 pub enum Pair {
     Read(f64, f64, usize),
     Wrong,
 }
 
 // How many points a ring has, the closing one not counted.
-#[derive(Drop)]
+#[derive(Clone, Copy)]
 pub enum Ring {
     Read(usize, usize),
     Wrong,
 }
 
 // How many polygons and points the lines have.
-#[derive(Drop)]
+#[derive(Clone, Copy)]
 pub enum Lines {
     Read(usize, usize),
     Wrong,
 }
 
-#[derive(Drop)]
+#[derive(Clone, Copy)]
 pub enum Post {
     Read(f64, f64, f64, usize),
     Wrong,
 }
 
 // What a text is answered with: the post, its range and the counts, or a refusal's number.
-#[derive(Drop)]
+#[derive(Clone, Copy)]
 pub enum Input {
     Read {
         x: f64,

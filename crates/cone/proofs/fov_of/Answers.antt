@@ -1,0 +1,11 @@
+-- `cone::fov_of` meets its contract: the test is the definition's. Assumes nothing.
+use Rattle.cone.specs.Cone.{fov_of}
+use Rattle.cone.proofs.fov_of.Goals as goal
+
+pub returns-then-is_full : goal.returns-then-is_full
+unfolding fov_of
+returns-then-is_full c = simp (← c.is_full.ensures, c.if-is_full.true)
+
+pub returns : goal.returns
+unfolding fov_of
+returns c = simp (c.fov_clamped.ensures, ← c.is_full.ensures, c.if-is_full.false)

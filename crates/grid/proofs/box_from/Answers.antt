@@ -1,0 +1,7 @@
+-- `grid::box_from` meets its contract. Assumes nothing.
+use Rattle.grid.specs.Boxes.{box_from}
+use Rattle.grid.proofs.box_from.Goals as goal
+
+pub returns : goal.returns
+unfolding box_from
+returns c = simp (c.at64-4.ensures, c.at64-3.ensures, c.at64-2.ensures, c.at64.ensures)
