@@ -1,6 +1,8 @@
 // Our own sine, cosine, atan2 and acos: one written list of float operations (docs/ANGLES.md), spelt out in specs/Angles.antt.
 // Only `+ - * /`, negation and comparisons, one rounding each, and in acos one square root: the same bits on every machine.
 // Document 01 allows a difference of 2^-40 from the Rust's; docs/DIFFERENCES.md has the greatest that was met.
+#![tactic(auto)]
+
 ghost use Rattle.std.specs.Prelude.{◌≡◌};
 ghost use Rattle.std.specs.Float.Ieee.{neg};
 ghost use Rattle.angle.specs.Angles.{sin_near, cos_near, turns, left, quadrant, pick, sin_far, cos_far, sin_of, cos_of, tail, shift, arc, small, ratio, flat, steep, half_turn, size_of, scaled, upper, leftward, on_axis, atan2_of, acos_of};

@@ -1,6 +1,8 @@
 // Answers as plain numbers, for callers that have no enums: the C interface (crate `exports_scene`) and the probe. An answer is a status, 0 or document 01's
 // number of the refusal, and its values, which are zeros where it is refused ("Each refusal carries its number and zero counts"). A head of a site is six
 // floats and five numbers (specs/Head.antt). Meanings: `specs/Numbers.antt` of the crates `grid`, `build` and `scene`, whose answers they are.
+#![tactic(auto)]
+
 ghost use Rattle.std.specs.Prelude.{◌≡◌};
 ghost use Rattle.grid.specs.Boxes.{box_at};
 ghost use Rattle.grid.specs.Numbers.{listed_status, listed_counts};

@@ -2,6 +2,8 @@
 // decided before the first write (`decide`), so that a refusal leaves every table as it was; then the tables are written, one after the other.
 // Meanings: specs/Stored.antt (what is stored), specs/Refusals.antt (when it refuses), specs/Outcome.antt (answer and tables), specs/Numbers.antt (the answer as
 // numbers). That a site so made is sound is proofs/BuiltSound.antt; that it refuses exactly when document 01 says is proofs/RefusedWhen.antt.
+#![tactic(auto)]
+
 ghost use Rattle.std.specs.Prelude.{◌≡◌, ◌+◌, ◌*◌, ◌<◌, ◌≤◌, length, replicate};
 ghost use Rattle.std.proofs.lemmas.List.Edits.{sets};
 ghost use Rattle.lists.specs.Lists.{joined, listed};

@@ -3,6 +3,8 @@
 //   a line BYTES NAME; so many bytes, which are the text, whatever they are; LF.
 // So a text that ends with LF is followed by an empty line. The name says what the documents ask for. Each case's line is printed again, after it what
 // `planner::answer` answers, then a line 3 DECIMALS and what `planner::answer_three` does.
+#![tactic(auto)]
+
 use libc::{STDIN_FILENO, STDOUT_FILENO};
 
 // One byte more than a text may have.

@@ -3,6 +3,8 @@
 // One rounding for each operation, in the Rust's order. `outline` is an entry point: it requires nothing, tests that the cone is in the domain (1) and that its
 // list is long enough (8), and loads what it is given, as document 01's rules for questions have it. All else refuses nothing.
 // Meanings: specs/Cone.antt (the cone, its box and its points), specs/Domain.antt (the domain and loading), specs/Outline.antt (the outcome of `outline`).
+#![tactic(auto)]
+
 ghost use Rattle.std.specs.Prelude.{◌≡◌, [], ◌∷◌, ◌+◌, ◌*◌, ◌<◌};
 ghost use Rattle.std.proofs.lemmas.List.Edits.{sets};
 ghost use Rattle.cone.specs.Cone.{cone_of, full_of, is_full_of, fov_clamped_of, start_angle_of, fov_of, view_of, reach_of, rim_of, with_axis, sector_box_of, aabb_of, arc_step_of, steps_of, arc_point_of, arc_of, numbers_of, Drawn};

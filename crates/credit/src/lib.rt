@@ -3,6 +3,8 @@
 // it met a further edge at its distance are the edges gone through that it tested. Who was credited for this cast is kept in marks of the call's own, so that no
 // pair is compared. The sweep asks for the further ones by themselves, where a tie is noted for its sample.
 // Meanings: specs/Credit.antt.
+#![tactic(auto)]
+
 ghost use Rattle.std.specs.Prelude.{◌≡◌, List, map, ℕ, eqb, get_or};
 ghost use Rattle.lists.specs.Lists.{cons_if};
 ghost use Rattle.lists.specs.Parts.{part};

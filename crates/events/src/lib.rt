@@ -1,6 +1,8 @@
 // The events of an outline merged: `visibility.rs`, lines 335 to 371. The straight sides of a sector join the events, all are put in order of
 // angle, and those less than 1e-12 after the kept one are merged into it; other corners are kept aside, each event's sorted by vertex.
 // Meanings: specs/Spots.antt (the merged events), specs/Held.antt (what the room holds of them).
+#![tactic(auto)]
+
 ghost use Rattle.std.specs.Prelude.{◌≡◌, [], ◌∷◌, ◌++◌, ◌+◌, ◌≤◌, length};
 ghost use Rattle.num.specs.Ops.{zero_f};
 ghost use Rattle.lists.specs.Lists.{listed};

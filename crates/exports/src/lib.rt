@@ -1,6 +1,8 @@
 // The C interface: numbers and slices only, each function one call of the library under it and with its promise.
 // The oracle (oracle/) calls these, so that it compares and times what users would link.
 // An answer that is an enum or a bool becomes a number, by a definition of specs/Numbers.antt.
+#![tactic(auto)]
+
 mod numbers;
 pub mod plane;
 

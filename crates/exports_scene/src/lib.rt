@@ -2,6 +2,8 @@
 // the numbers that `grid`, `build` and `scene` give their answers: it returns a status, 0 or document 01's number of the refusal, and leaves its values in the last parameters, zeros on
 // refusal. A site is six floats (width, height, the grid's origin, cell and its inverse), five numbers (columns, rows, polygons, points, items) and the six
 // tables. In C a slice is a pointer and a length, and an array is a pointer.
+#![tactic(auto)]
+
 pub mod inner;
 pub mod reads;
 

@@ -1,5 +1,7 @@
 // The C interface of the text program: `planner::answer` and `planner::answer_three` (document 01, "The text program"; document 02, Q-7).
 // Meaning: crates/planner/specs/Answer.antt.
+#![tactic(auto)]
+
 ghost use Rattle.planner.specs.Answer.{six_places, three_places, Answers};
 
 // The answer to a text, with six decimals: as much of it as `out` has room for, and zeros behind it. How long it is, is answered.

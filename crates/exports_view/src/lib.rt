@@ -1,6 +1,8 @@
 // The C interface of outlines: `compute_visibility` with numbers and slices only, and beside it the inner call without the tests, for comparing and timing alone;
 // a cone's own outline, and the area of an outline. A status is 0 or document 01's number of the refusal; the numbers of an answer are zeros on refusal. The cone
 // is the post's x and y, range, direction and opening angle; the entries are those of `Rooms`, in document 01's order. Meanings: specs/Numbers.antt.
+#![tactic(auto)]
+
 mod numbers;
 
 ghost use Rattle.std.specs.Prelude.{◌≡◌};

@@ -1,6 +1,8 @@
 // The extent of a site: a polygon's box, the bounds and the size of the cells, each by one box more, as building meets the boxes: `Scene::new` and
 // `pick_cell_size` of the Rust's `scene.rs`; document 01, "Site and grid". That the bounds, the cell, columns and rows of a site that building makes are sound is
 // proofs/SoundHead.antt. Meanings: specs/Boxes.antt, specs/Extent.antt, specs/Sound.antt.
+#![tactic(auto)]
+
 ghost use Rattle.std.specs.Prelude.{◌≡◌, ◌+◌, ◌^◌, ◌<◌, min};
 ghost use Rattle.extent.specs.Boxes.{polygon_box_of, box_count, boxes_of};
 ghost use Rattle.extent.specs.Extent.{bounds_of, join_box_of, side_of, add_side_of, cell_from};

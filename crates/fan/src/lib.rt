@@ -2,6 +2,8 @@
 // candidate polygon is looked at; one that faces the post is cut to the range and kept, and its ends become events.
 // Each edge is decided by value first; what is found is then written into the lent room, each list in its own stretch of it.
 // Meanings: specs/Sides.antt (one edge), specs/Fan.antt (all of them). What is known of the lists: proofs/Bounds.antt, proofs/Fronts.antt.
+#![tactic(auto)]
+
 ghost use Rattle.std.specs.Prelude.{◌≡◌, ◌^◌, ◌<◌, length, take};
 ghost use Rattle.site.specs.Tables.{first_of, len_of};
 ghost use Rattle.room.specs.Layout.{Fit};

@@ -3,6 +3,8 @@
 // Meanings: specs/Vec.antt, specs/Box.antt, specs/Segment.antt, specs/Ring.antt. One rounding for each operation, in the Rust's order.
 // A list of points is a slice of numbers, x and y by turns; an odd last number is not a point.
 // A comparison has no effect, so where the Rust joins comparisons by `&&`, `&` stands here: no branch.
+#![tactic(auto)]
+
 ghost use Rattle.std.specs.Prelude.{◌≡◌, ◌<◌, true};
 ghost use Rattle.num.specs.Ops.{zero_f, one_f};
 ghost use Rattle.num.specs.Num.{min_of, max_of};

@@ -2,6 +2,8 @@
 // and the ray walk (crate `walk`). The tables are lent as number lists; a visitor becomes a list writer. Document 01, "Site and grid".
 // Meanings: specs/Boxes.antt (the list of boxes), specs/Range.antt (columns and cell ranges), specs/Stamps.antt, specs/Entries.antt (what the tables say), specs/Query.antt,
 // specs/Numbers.antt (a query's answer as numbers).
+#![tactic(auto)]
+
 ghost use Rattle.std.specs.Prelude.{◌≡◌, suc, ◌+◌, ◌-◌, ◌^◌, ◌≤◌, ◌<◌, length, set, replicate};
 ghost use Rattle.std.proofs.lemmas.List.Edits.{sets};
 ghost use Rattle.num.specs.Num.{floor_of};

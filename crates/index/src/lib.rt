@@ -3,6 +3,8 @@
 // places of edges: each list in its own stretch of the lent words. Every read of a cast is total.
 // Meanings: specs/Spans.antt (buckets), specs/Angular.antt (the index), specs/Casting.antt (the cast in both modes), specs/Rust.antt (the Rust's by
 // itself), specs/Stands.antt (where it stands), specs/Filling.antt (the passes of the building).
+#![tactic(auto)]
+
 ghost use Rattle.std.specs.Prelude.{◌≡◌, ℕ, suc, ◌+◌, ◌<◌, ◌≤◌, max, true, [], map, length, take, drop, slice_index};
 ghost use Rattle.lists.specs.Lists.{bit, sum_to};
 ghost use Rattle.lists.specs.Parts.{part};

@@ -1,6 +1,8 @@
 // What the replays share (crates `replay` and `replay_sites`): lines of words of hexadecimal digits, and the words of an answer.
 // A line is a function's number, its arguments and its results, each a word. A float is its bit pattern, a result after adding 0.0.
 // Reads past the end give 0 and writes past the end do nothing, so that no caller has to show an index. Meanings: specs/Words.antt.
+#![tactic(auto)]
+
 ghost use Rattle.std.specs.Prelude.{◌≡◌, not, ◌+◌, ◌≤◌, length, get_or, set};
 ghost use Rattle.std.specs.Float.{binary64};
 ghost use Rattle.std.specs.Float.Ieee.{of_bits, to_bits};

@@ -4,6 +4,8 @@
 // The entry point requires nothing. It refuses as 6, 1 and 8, in this order; as 6 or 1, nothing is written.
 // Meanings: specs/Shared.antt (the list), specs/Outcome.antt (the call), specs/Keys.antt (how the work is done). When it is refused: proofs/Refusing.antt. That it lists and
 // counts as the grid does is said in crate `demand` (`both_engines` in proofs/DemandThree.antt).
+#![tactic(auto)]
+
 ghost use Rattle.std.specs.Prelude.{◌≡◌, ◌*◌, ◌<◌, ◌≤◌, min, max, length, take};
 ghost use Rattle.tables.specs.Tables.{Limits, area_of};
 ghost use Rattle.build.specs.Outcome.{span_at};

@@ -2,6 +2,8 @@
 // infinities too, and its promise says the one answer; the three private ones that make up the root ask for a range of their caller.
 // Meanings: specs/Num.antt (floor to remainder), specs/Order.antt (total order), specs/Root.antt (square root).
 // IEEE 754-2019 decides floor, ceiling, total order and root; the pages of Rust's library decide the rest.
+#![tactic(auto)]
+
 ghost use Rattle.std.specs.Prelude.{◌≡◌, ◌*◌, ◌^◌, ◌<◌, ◌≤◌, from_bits, is_nan, to_bits};
 ghost use Rattle.std.specs.Float.{binary64};
 ghost use Rattle.std.specs.Float.Ieee.{to_unsigned, to_signed};

@@ -2,6 +2,8 @@
 // polygons that own the edges seen: the Rust's `owners`. The Rust's tags are looked at two back at most, so the last two stand in the state by value.
 // Where a list would pass its entries the flag `over` is set, and from then on nothing is written or counted.
 // Meanings: specs/Outline.antt.
+#![tactic(auto)]
+
 ghost use Rattle.std.specs.Prelude.{◌≡◌, ◌*◌, ◌≤◌, length};
 ghost use Rattle.outline.specs.Outline.{none, close_of, Chosen, room_of, tail_of, place_of, out, push_of, Pushed, Room, owned, own_of, Grown};
 

@@ -1,6 +1,8 @@
 // The text program: standard input is read to its end, or to one byte more than a text may have, and answered on standard output
 // (document 01, "The text program"). What it answers is `planner::answer`, with six decimals; a read that fails is answered as a text that is too long,
 // REFUSED 9.
+#![tactic(auto)]
+
 use libc::STDOUT_FILENO;
 
 // One byte more than a text may have.

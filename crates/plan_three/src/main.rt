@@ -1,5 +1,7 @@
 // The text program for readers limited to three decimals (document 02, Q-7): as `plan`, which see, but what it answers is `planner::answer_three`. It reads by
 // the same rules, six decimals included.
+#![tactic(auto)]
+
 use libc::STDOUT_FILENO;
 
 // One byte more than a text may have.

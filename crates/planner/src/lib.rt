@@ -2,6 +2,8 @@
 // six decimals and `answer_three` three; they are the calls from outside, and require nothing. Each reads the text, builds the site, asks the outline from
 // the post, and prints it with the polygons seen; or a refusal's line alone. All tables and rooms are the call's own, of the entries that document 01 gives.
 // Meanings: specs/Rooms.antt (the entries), specs/Answer.antt (the answer).
+#![tactic(auto)]
+
 ghost use Rattle.std.specs.Prelude.{◌≡◌, ◌*◌, ◌≤◌, ◌<◌, min, length};
 ghost use Rattle.site.specs.Tables.{tables, verts_of};
 ghost use Rattle.wkt_print.specs.Decimal.{Printed};

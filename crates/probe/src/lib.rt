@@ -2,6 +2,8 @@
 // C interface for users (crate `exports`): nothing here tests the tables that it is lent.
 // Each function is one call of the library under it, with its promise and its `requires`; `bf_inner_ray_cells` runs the walk to its end.
 // A grid is six numbers, a box four. In C a slice is a pointer and a length, and an array is a pointer.
+#![tactic(auto)]
+
 mod numbers;
 
 ghost use Rattle.std.specs.Prelude.{◌≡◌, ◌≤◌, length, get_or};

@@ -2,6 +2,8 @@
 // The points are drawn into two lists of the function's own, as long as the largest random site needs them, and then built as any other
 // site: so nothing is written into a lent table before the building has decided.
 // Meanings: specs/Draws.antt (what is drawn), specs/Outcome.antt (answer and tables), specs/Checks.antt (when it refuses).
+#![tactic(auto)]
+
 ghost use Rattle.std.specs.Prelude.{◌≡◌, ◌*◌, ◌≤◌};
 ghost use Rattle.std.proofs.lemmas.List.Edits.{sets};
 ghost use Rattle.site.specs.Tables.{tables};

@@ -1,5 +1,7 @@
 // The rays of an outline: the samples of the merged events, their casts and their order (`visibility.rs`, lines 380 to 417).
 // A list that is full is counted on without writing. Meanings: specs/Samples.antt (the samples), specs/Stands.antt (where they stand).
+#![tactic(auto)]
+
 ghost use Rattle.std.specs.Prelude.{◌≡◌, [], ◌∷◌, ◌+◌, length};
 ghost use Rattle.room.specs.Layout.{Place};
 ghost use Rattle.rays.specs.Samples.{step_of, wrap_of, aim_of, ray_of, rays_of, samples_of};

@@ -1,4 +1,6 @@
 // How the text programs `plan` and `plan_three` read standard input: to its end, or as far as there is room (document 01, "The text program").
+#![tactic(auto)]
+
 ghost use Rattle.std.specs.Prelude.{◌≡◌, ◌≤◌, length};
 
 use libc::STDIN_FILENO;

@@ -2,6 +2,8 @@
 // The Rust's `Sweep` stands as plain parameters: the stated rooms, the head of the index, the work room's slices, the site's tables and the view.
 // What a crossing comes to is decided by value (`turn_at`); `refine` calls itself on both halves, with 33 minus the depth falling.
 // Meanings: specs/Refine.antt.
+#![tactic(auto)]
+
 ghost use Rattle.std.specs.Prelude.{◌≡◌, ◌+◌, ◌-◌, ◌^◌, ◌<◌, length};
 ghost use Rattle.outline.specs.Outline.{owned, Room};
 ghost use Rattle.credit.specs.Credit.{own_all, Credited};

@@ -2,6 +2,8 @@
 // A line is words of hexadecimal digits with a space between: the function's number (call.rt), its arguments, its results.
 // A float is its bit pattern, a result after adding 0.0 so that the sign of a zero does not count, every NaN as one.
 // `oracle/run sample` writes the input. The program prints how many lines it read, over how many functions, and how many differ.
+#![tactic(auto)]
+
 mod answer;
 mod call;
 mod inner;

@@ -2,6 +2,8 @@
 // Lines are as in crate `replay`: a number, arguments, results, each a word. A line 601 builds a site into the program's own tables
 // (current.rt), and the lines after it, up to the next 601, ask that site (call.rt).
 // `oracle/run sample` writes the input. The program prints how many lines it read, of how many functions, over how many sites, and how many differ.
+#![tactic(auto)]
+
 mod call;
 mod current;
 mod outlines;

@@ -1,5 +1,7 @@
 // `Rng` of scene.rs, lines 365 to 396: SplitMix64, tiny, fast and the same on every platform. A draw hands back the
 // generator as it is afterwards and what was drawn; specs/Rng.antt says which.
+#![tactic(auto)]
+
 ghost use Rattle.std.specs.Prelude.{◌≡◌, ◌*◌, ◌/◌, ◌%◌, ◌^◌};
 ghost use Rattle.rng.specs.Rng.{new_of, next_u64_of, next_f64_of, range_of};
 

@@ -4,6 +4,8 @@
 // `visibility.rs`, lines 213 to 244. The table of numbers for each entry is docs/ROOM.md.
 // An entry's number is a `u32`, so no place of it can pass a `usize`. Every read is total: past the end a number is 0 and a float is NaN.
 // Meanings: specs/Layout.antt (where the lists stand), specs/Records.antt (what stands there).
+#![tactic(auto)]
+
 ghost use Rattle.std.specs.Prelude.{◌≡◌, [], ◌∷◌, ◌≤◌, ◌<◌, length};
 ghost use Rattle.lists.specs.Lists.{bit};
 ghost use Rattle.room.specs.Layout.{edges_f, events_f, merged_f, samples_f, distances_f, dirs_f, floats_for, edges_w, nearest_w, events_w, turns_w, merged_w, corners_w, starts_w, refs_w, samples_w, order_w, seen_w, words_for, is_short, Place};

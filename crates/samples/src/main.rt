@@ -1,5 +1,7 @@
 // The samples of document 01 that belong to sites and posts, run: builds each site into lent tables, asks, and prints a line for each sample.
 // What it prints is compared with the file `stdout` beside src/. That P1 to P10 are so is also proved: specs/Samples.antt and proofs/SamplesHold.antt.
+#![tactic(auto)]
+
 use build::Made;
 use cone::ViewCone;
 use geom::{Aabb, Vec2};

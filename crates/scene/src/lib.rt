@@ -4,6 +4,8 @@
 // Numbers are loaded: minus zero becomes plus zero. Functions take the site's head, then its six tables in their order, then what is asked.
 // Meanings: specs/Asked.antt (the order of tests), specs/Answers.antt (each answer), specs/Stamping.antt (calls that write), specs/Numbers.antt (answers as
 // numbers). When each call is refused, and as what, is proofs/Refusals.antt.
+#![tactic(auto)]
+
 ghost use Rattle.std.specs.Prelude.{◌≡◌};
 ghost use Rattle.site.specs.Tables.{tables};
 ghost use Rattle.grid.specs.Query.{Is};

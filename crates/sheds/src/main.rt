@@ -1,6 +1,8 @@
 // Both sheds deserve the credit (document 02, Q-3), as an example that runs: two sheds from one front wall, 5 and 9 deep, and a post before it. By the Rust's
 // rule, mode 0, the shed that was given first has the credit, whichever that is. In mode 1 both have it, in either order. What it prints is compared with the
 // file `stdout` beside src/. The same two texts for the text program, which keeps to mode 0: examples/one-wall.wkt and examples/one-wall-turned.wkt.
+#![tactic(auto)]
+
 use build::Made;
 use cone::ViewCone;
 use geom::Vec2;

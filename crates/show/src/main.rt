@@ -1,5 +1,7 @@
 // Shows the numbers and angles at work until the text program exists: a root, a remainder, a sine and cosine, an angle,
 // each with nine decimals, cut off. What it prints is compared with the file `stdout` beside src/.
+#![tactic(auto)]
+
 use libc::STDOUT_FILENO;
 
 // The lowest nine decimal digits of n, with leading zeros.

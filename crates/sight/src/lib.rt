@@ -2,6 +2,8 @@
 // Nothing here tests the tables: the entry points are in crate `scene`. Each public function takes whatever it is lent: a read past a table's end gives the default.
 // Meanings: specs/Slabs.antt (the box test), specs/Holding.antt (`polygon_at`), specs/Casting.antt (`cast_ray`).
 // The mode of a ray is document 02's, Q-3: 0 the Rust's rule, any other the lowest edge of those that are tested and met at exactly the same distance.
+#![tactic(auto)]
+
 ghost use Rattle.std.specs.Prelude.{◌≡◌};
 ghost use mathlib.Core.List.{foldl};
 ghost use Rattle.lists.specs.Lists.{filter};

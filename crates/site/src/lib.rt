@@ -3,6 +3,8 @@
 // A table is a slice of numbers, so many of them for each entry, and may be lent longer than it is. Functions take the slices that they need
 // in the order points, boxes, polygons, owners, starts, items. Every read is total: past the end a number is 0 and a float is NaN.
 // Meanings: specs/Tables.antt (fields), specs/Domain.antt (input numbers), specs/Soundness.antt (sound tables).
+#![tactic(auto)]
+
 ghost use Rattle.std.specs.Prelude.{◌≡◌, ◌-◌, ◌<◌, length};
 ghost use Rattle.site.specs.Tables.{tables, first_of, len_of, point_at, owner_at, start_at, item_at, verts_of, box_of, edge_end_of, edge_of, cells_of};
 ghost use Rattle.site.specs.Domain.{point_in_domain, box_in_domain, load_of, load_point_of, load_box_of};

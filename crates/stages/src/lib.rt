@@ -2,6 +2,8 @@
 // stage writes its own stretch of the lent room. A list that would pass its entries makes the answer a refusal 8. The box query before them and the
 // zeroing after them are crate `view`, the tests crate `visibility`. Inner functions: what they ask of the room their caller has tested.
 // Meanings: specs/Drawing.antt (the stages), specs/Shows.antt (what an answer shows), specs/Held.antt (what stands in the room).
+#![tactic(auto)]
+
 ghost use Rattle.std.specs.Prelude.{◌≡◌, [], ◌≤◌, length, take};
 ghost use Rattle.lists.specs.Parts.{part};
 ghost use Rattle.room.specs.Layout.{seen_w, words_for};

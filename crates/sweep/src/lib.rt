@@ -3,6 +3,8 @@
 // two edges. The samples, their directions and ties are read through their order from the work room; of the words only the last stretch is written, by the
 // corners seen.
 // Meanings: specs/Sweep.antt.
+#![tactic(auto)]
+
 ghost use Rattle.std.specs.Prelude.{◌≡◌, ◌-◌, ◌*◌, ◌<◌, ◌≤◌, length};
 ghost use Rattle.lists.specs.Lists.{listed};
 ghost use Rattle.lists.specs.Parts.{part, Only};

@@ -2,6 +2,8 @@
 // (`visibility.rs`, lines 246 to 518) does, but for the tests of what is lent, which are crate `visibility`. The query runs also where the room is short, so that
 // the stamps end as without the refusal. Afterwards the work room is zero, and so is the rest of each output list.
 // Meanings: specs/Post.antt (what the post comes to), specs/Outcome.antt (the outcome).
+#![tactic(auto)]
+
 ghost use Rattle.std.specs.Prelude.{◌≡◌, ◌*◌, ◌≤◌, length};
 ghost use Rattle.site.specs.Tables.{tables};
 ghost use Rattle.site.specs.Soundness.{Sound};

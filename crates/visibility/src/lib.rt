@@ -4,6 +4,8 @@
 // unrefused call leaves them. Afterwards the work room is zero, and so is the rest of each output list. What comes after the tests is crate `view`.
 // Meanings: specs/Asked.antt (the tests), specs/Outcome.antt (the outcome), specs/Numbers.antt (the answer as numbers), specs/Beside.antt (area and
 // default tolerance).
+#![tactic(auto)]
+
 ghost use Rattle.std.specs.Prelude.{◌≡◌};
 ghost use Rattle.site.specs.Tables.{tables};
 ghost use Rattle.view.specs.Outcome.{lent, out};

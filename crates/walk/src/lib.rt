@@ -4,6 +4,8 @@
 // Meanings: specs/Clipping.antt (where the walk begins), specs/Steps.antt (a step), specs/Tours.antt (the walk). Each public function takes whatever it is given.
 // Where the Rust would step and yet stay in its cell, the walk ends (document 01, "Site and grid"); with a length that is a number it never comes to that
 // (proofs/NeverStays.antt).
+#![tactic(auto)]
+
 ghost use Rattle.std.specs.Prelude.{◌≡◌, ◌<◌};
 ghost use Rattle.walk.specs.Clipping.{clip_of, clip_box_of, index_of, axis_of, set_out_of, ray_start, Cells};
 ghost use Rattle.walk.specs.Steps.{moved_to, cell_number, exit_of, step_of};

@@ -2,7 +2,7 @@
 -- `as_before`: a text in which no decimal point has 4 to 6 digits after it is read to the same values, or refused, as it was with at most three. `old_text`: a text
 -- that was read then is read the same. Both are cases of laws over any two counts, f before and g now: `text_unmoved`, `decimals_kept`. `six_read` and `six_most`: a
 -- number of up to six decimals is read, and what is read has no more. Assumes nothing.
-use Rattle.std.proofs.Common.{◌≡◌, ℕ, ◌≤◌, true, false, ◌⊎◌, List, [], ◌∷◌, length, drop, refl, ⊎_elim, arith, eqb-true}
+use Rattle.std.proofs.Common.{◌≡◌, ℕ, ◌≤◌, true, List, [], ◌∷◌, length, drop, refl, ⊎_elim, arith, eqb-true}
 use mathlib.Core.Bool.{false≢true}
 use lib.Ieee.{Float}
 use Rattle.wkt.specs.Limits.{whole_digits, part_digits, former_part_digits}

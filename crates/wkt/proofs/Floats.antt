@@ -1,6 +1,6 @@
 -- Floats of whole numbers, their signs and their quotients: one division of two whole floats gives the nearest float of the fraction.
 -- Assumes nothing.
-use Rattle.std.proofs.Common.{◌≡◌, ℕ, ◌+◌, ◌-◌, ◌*◌, ◌^◌, ◌<◌, ◌≤◌, Bool, true, false, not, ◌&&◌, eqb, pos, sym, refl, ap, ◌∙◌, mul_assoc, mul_comm, mul-pos, zero-mul, mul-one, mul_left_comm, arith, ne_eqb}
+use Rattle.std.proofs.Common.{◌≡◌, ℕ, ◌+◌, ◌*◌, ◌^◌, ◌<◌, ◌≤◌, Bool, true, false, not, ◌&&◌, eqb, pos, sym, refl, ap, ◌∙◌, mul_assoc, mul_comm, mul-pos, zero-mul, mul-one, mul_left_comm, arith, ne_eqb}
 use mathlib.Core.Bool.{and-false}
 use lib.Ieee.{Float, nan, inf, fin, binary64, up, down, round, neg, div, of_int}
 use lib.Ieee.Fits.{down_pos}

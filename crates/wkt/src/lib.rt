@@ -2,6 +2,8 @@
 // What a text means stands in specs/Grammar.antt, under the rules of specs/Rules.antt, on lists and without a cursor; here a cursor runs over
 // the bytes once, each point is stored where there is room for it, and all are counted. `read_input` is the one call from outside; printing
 // uses `ten_to` too.
+#![tactic(auto)]
+
 ghost use Rattle.std.specs.Prelude.{◌≡◌, ◌+◌, ◌*◌, ◌^◌, ◌<◌, ◌≤◌, ◌&&◌, [], ◌∷◌, length, drop, nat_le};
 ghost use Rattle.std.proofs.lemmas.List.Edits.{sets};
 ghost use Rattle.wkt.specs.Limits.{least_ring};

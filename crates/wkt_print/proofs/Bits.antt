@@ -109,7 +109,7 @@ shifted n c g h =
     (regroup n (2 ^ g) c (2 ^ (1074 - g)) ∙ ap (λ (x : ℕ). n * c * x) (sym q))
   where
     regroup : (n g c k : ℕ) → n * g * c * k ≡ n * c * (g * k)
-    regroup n g c k = simp (mul_assoc, mul_comm, mul_left_comm)
+    regroup n g c k = simp (mul_assoc, mul_left_comm)
 
 -- a float below the limit has few places before its point
 room : (m : ℕ) (e : ℤ) (t g : ℕ) → HasValue (fin false m e) false ((t + 4503599627370496) * 2 ^ g) (2 ^ 1074) → m * up e < 33554432 * down e → g ≤ 1046

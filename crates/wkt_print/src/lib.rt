@@ -1,6 +1,8 @@
 // Printing the text program's output: numbers in decimals, closed polygons and refusals (document 01, "The text program"; OGC 06-103r4).
 // Each function writes into a lent slice from a place on and hands back the place after what it wrote. A full slice is counted on
 // without writing. Numbers are worked out in whole numbers, exactly, and rounded once.
+#![tactic(auto)]
+
 ghost use Rattle.std.specs.Prelude.{◌≡◌, ◌+◌, ◌*◌, ◌^◌, ◌≤◌, ◌<◌, false, not, ◌&&◌, eqb, length, get_or};
 ghost use Rattle.std.specs.Float.Ieee.{lt, of_bits};
 ghost use Rattle.std.specs.Float.{binary64};

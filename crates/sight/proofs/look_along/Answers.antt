@@ -2,7 +2,8 @@
 use Rattle.sight.proofs.Looking.{begun, turn_next, turn_stop, turn_end}
 use Rattle.walk.proofs.EnteredOnce.{left_few}
 use Rattle.walk.proofs.StepLaws.{moves}
-use mathlib.Core.Path.{sym, ◌∙◌}
+use mathlib.Core.Path.{sym, ap, ◌∙◌}
+use mathlib.Core.Bool.{not}
 use native.Mathlib.Omega.{arith}
 use Rattle.sight.proofs.look_along.Goals as goal
 

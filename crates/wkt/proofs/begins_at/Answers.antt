@@ -1,5 +1,5 @@
 -- `wkt::begins_at` meets its contract. Assumes nothing.
-use Rattle.std.proofs.Common.{◌≡◌, ℕ, ◌+◌, ◌-◌, ◌<◌, Bool, true, false, ◌&&◌, List, length, get_or, drop, sym, ap, ◌∙◌, add-zero, arith, drop_of_length-le, drop-drop}
+use Rattle.std.proofs.Common.{◌≡◌, ℕ, ◌+◌, ◌<◌, Bool, true, false, ◌&&◌, List, length, get_or, drop, sym, ap, ◌∙◌, add-zero, arith, drop_of_length-le, drop-drop}
 use Rattle.wkt.proofs.Numerals.{inside}
 use Rattle.wkt.proofs.Prefix.{begins_step}
 use Rattle.wkt.specs.Rules.{capital_of}

@@ -1,5 +1,5 @@
 -- `wkt::closes` meets its contract. Assumes nothing.
-use Rattle.std.proofs.Common.{◌+◌, ◌-◌, arith, le-leb}
+use Rattle.std.proofs.Common.{◌+◌, arith, le-leb}
 use borrow.Author.Tests.{lt-leb}
 use Rattle.wkt.proofs.closes.Goals as goal
 

@@ -1,5 +1,5 @@
 -- `wkt::comma_pair` meets its contract. Assumes nothing.
-use Rattle.std.proofs.Common.{◌-◌, drop, sym, ap, ◌∙◌, drop-drop}
+use Rattle.std.proofs.Common.{drop, sym, ap, ◌∙◌, drop-drop}
 use Rattle.wkt.proofs.Rings.{pair_on_more}
 use Rattle.wkt.proofs.Prefix.{word_yes, word_no}
 use Rattle.wkt.specs.Rules.{capital_of, rules}

@@ -1,5 +1,5 @@
 -- `wkt::is_at` meets its contract. Assumes nothing.
-use Rattle.std.proofs.Common.{◌-◌, arith}
+use Rattle.std.proofs.Common.{arith}
 use Rattle.wkt.proofs.Numerals.{spells_in, spells_end}
 use Rattle.wkt.proofs.is_at.Goals as goal
 

@@ -1,6 +1,6 @@
 -- `wkt::read_number` meets its contract. Assumes nothing.
 use Rattle.wkt.proofs.Numerals.{on_more}
-use Rattle.std.proofs.Common.{◌-◌, sym, ◌∙◌, arith}
+use Rattle.std.proofs.Common.{sym, ◌∙◌, arith}
 use Rattle.wkt.proofs.Numerals.{inside, number_minus, number_plain}
 use Rattle.wkt.proofs.read_number.Goals as goal
 

@@ -1,6 +1,6 @@
 -- `wkt::ten_to` meets its contract. Assumes nothing.
 use Rattle.wkt.proofs.Numerals.{ten_le, ten_next}
-use Rattle.std.proofs.Common.{◌≡◌, ℕ, ◌-◌, ◌*◌, ◌^◌, sym, ap, ◌∙◌, arith}
+use Rattle.std.proofs.Common.{◌≡◌, ℕ, ◌*◌, ◌^◌, sym, ap, ◌∙◌, arith}
 use Rattle.wkt.proofs.ten_to.Goals as goal
 
 pub overflow_mul-p : goal.overflow_mul-p
