@@ -23,7 +23,7 @@ truncating_f64_to_u64-n-requires c = let it = in_range_neg _ c.if-x-3.true c.if-
 
 pub returns-then-t-x : goal.returns-then-t-x
 unfolding of_bits
-returns-then-t-x c = 
+returns-then-t-x c =
     floor_neg_whole c.args.x ((let it : T (fits binary64 c.args.x) = yes c.well_formed.0.1 in it)) c.if-x-3.true c.if-x-4.true
     (rw (← c.truncating_f64_to_u64-n.ensures, ← c.nearest_u64_to_f64-t.ensures) c.if-t-x.true)
 
@@ -33,7 +33,7 @@ overflow_add-n c = record { fits = rw c.truncating_f64_to_u64-n.ensures (one_mor
 
 pub returns-then-x-4 : goal.returns-then-x-4
 unfolding of_bits
-returns-then-x-4 c = 
+returns-then-x-4 c =
     ap neg c.nearest_u64_to_f64-then-x-4.ensures
     ∙ ap (λ (n : ℕ). neg (of_int binary64 (pos (n + 1)))) c.truncating_f64_to_u64-n.ensures
     ∙ floor_neg_part c.args.x c.if-x-3.true c.if-x-4.true

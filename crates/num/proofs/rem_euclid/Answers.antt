@@ -8,12 +8,12 @@ use Rattle.num.proofs.rem_euclid.Goals as goal
 
 pub returns-then-r : goal.returns-then-r
 unfolding of_bits
-returns-then-r c = 
+returns-then-r c =
     let r = rem binary64 c.args.x c.args.y in
     ap (λ (z : Float). add binary64 r z) c.abs.ensures ∙ sym (ap (λ (t : Bool). cond t (add binary64 r (abs_of c.args.y)) r) c.if-r.true) ∙ rem_is c.args.x c.args.y (yes c.well_formed.0.1) (yes c.well_formed.1.0.1)
 
 pub returns : goal.returns
 unfolding of_bits
-returns c = 
+returns c =
     let r = rem binary64 c.args.x c.args.y in
     sym (ap (λ (t : Bool). cond t (add binary64 r (abs_of c.args.y)) r) c.if-r.false) ∙ rem_is c.args.x c.args.y (yes c.well_formed.0.1) (yes c.well_formed.1.0.1)

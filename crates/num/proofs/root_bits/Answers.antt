@@ -20,7 +20,7 @@ pub overflow_shl-m : goal.overflow_shl-m
 overflow_shl-m c = omega (arith, (moved c.args.n c.args.h c.requires.0 c.requires.1).few)
 
 pub root108-s-requires : goal.root108-s-requires
-root108-s-requires c = 
+root108-s-requires c =
     let m = moved c.args.n c.args.h c.requires.0 c.requires.1 in
     subst (λ (x : ℕ). (4503599627370496 ≤ x) × (x < 18014398509481984)) (sym (no_wrap c.args.n c.args.h c.requires.0 c.requires.1)) (m.low, omega (arith, m.high))
 

@@ -1,0 +1,12 @@
+-- `near::gather_one` meets its contract. Assumes nothing.
+use Rattle.near.proofs.Gathering.{one_nothing, one_same}
+use Rattle.near.proofs.gather_one.Goals as goal
+
+pub gather_cells-requires : goal.gather_cells-requires
+gather_cells-requires c = record { small = (rw c.in-Cells.is at c.requires.small_in.0, c.requires.small_in.1); found_le_id = c.requires.found_le_id }
+
+pub returns-in-Nothing : goal.returns-in-Nothing
+returns-in-Nothing c = one_nothing _ _ _ _ _ c.in-Nothing.is
+
+pub returns-in-Cells : goal.returns-in-Cells
+returns-in-Cells c = one_same _ _ _ _ _ _ _ _ c.in-Cells.is c.gather_cells.ensures
