@@ -133,8 +133,9 @@ module _ (mode : ℕ) (ties : mode ≡ 0 → ⊥) where
         let m = better_of mode (met_by mode slack o dir e) e.edge b in
         ⊎_elim
         (λ q. let u : lt b.t e.near ≡ false = rw q at a.0 in absurd (true≢false (sym q ∙ ap (λ (z : Bool). cond z (le b.t e.near) (lt b.t e.near)) (ne_eqb mode 0 ties) ∙ u)))
-        (λ q. rw q (let w : All (λ e. lt (walk_of slack o dir mode m (l ++ k)).t e.near ≡ false) l = rw q at a.1 in
-        (inl refl, all_map (λ f. In f (tested_of slack o dir mode m (l ++ k))) (λ f. In f (e ∷ tested_of slack o dir mode m (l ++ k))) (λ f i. inr i) l (walk_through m l k w))))
+        (λ q. let w : All (λ e. lt (walk_of slack o dir mode m (l ++ k)).t e.near ≡ false) l = subst (λ (z : Bool). All (λ f. lt (cond z b (walk_of slack o dir mode m (l ++ k))).t f.near ≡ false) l) q a.1 in
+        subst (λ (z : Bool). All (λ f. In f (cond z [] (e ∷ tested_of slack o dir mode m (l ++ k)))) (e ∷ l)) (sym q)
+        (inl refl, all_map (λ f. In f (tested_of slack o dir mode m (l ++ k))) (λ f. In f (e ∷ tested_of slack o dir mode m (l ++ k))) (λ f i. inr i) l (walk_through m l k w)))
         (by_test (stop_of mode b.t e.near))
 
 -- ---- the edge answered is one that was tested

@@ -3,7 +3,7 @@ use Rattle.std.proofs.Common.{◌+◌, ◌-◌, sym, refl, ◌∙◌, ⊎_elim, 
 use Rattle.index.proofs.Notes.{not_said, is_said, passed_by}
 use Rattle.index.proofs.Passes.{scattered_none, scattered_open, scattered_close, put_room, scattered_more, scattered_skip, scattered_all}
 use Rattle.index.proofs.put_all.Goals as goal
-use Rattle.index.proofs.put_all.Goals.{else-p-eq-UNSAID, then-p-eq-UNSAID}
+use Rattle.index.proofs.put_all.Goals.{then-meets, else-meets, else-p-eq-UNSAID, then-p-eq-UNSAID}
 
 pub loop-lo-init : goal.loop-lo-init
 loop-lo-init c = scattered_none c.args.k c.args.floats.now c.args.x c.args.total c.args.n c.args.words.now c.requires c.starts_w-starts.result c.starts_w-starts.ensures c.wide-refs.result c.wide-refs.ensures
@@ -45,17 +45,16 @@ pub slice_bounds-put_edge-start : goal.slice_bounds-put_edge-start
 slice_bounds-put_edge-start c = let t = c.loop-r.invariant c.args.words.now c.requires c.loop-lo.invariant in omega (arith, c.starts_w-starts.ensures, c.requires.ready.fit.words_fit, c.requires.ready.held, t.left, t.long)
 
 pub put_edge-requires : goal.put_edge-requires
-put_edge-requires c = put_room c.args.k c.args.floats.now c.args.x c.args.total c.args.n c.args.words.now c.requires c.starts_w-starts.result c.starts_w-starts.ensures c.wide-refs.result c.wide-refs.ensures c.loop-r.words c.loop-lo.lo (c.loop-lo.lo + 512) c.loop-r.r c.loop-r-test.true (c.loop-r.invariant c.args.words.now c.requires c.loop-lo.invariant) c.nearest_w-order.result c.nearest_w-order.ensures c.notes_w-notes.result c.notes_w-notes.ensures c.if-p-eq-UNSAID.s (elim c.if-p-eq-UNSAID.branch [ then-p-eq-UNSAID v ↦ not_said _ _ v.if-p-eq-UNSAID.true (v.2 ∙ v.1.ensures) | else-p-eq-UNSAID v ↦ is_said _ _ v.if-p-eq-UNSAID.false (v.2 ∙ v.1.ensures) ]) c.cut_both.result c.cut_both.ensures
+put_edge-requires c = put_room c.args.k c.args.floats.now c.args.x c.args.total c.args.n c.args.words.now c.requires c.starts_w-starts.result c.starts_w-starts.ensures c.wide-refs.result c.wide-refs.ensures c.loop-r.words c.loop-lo.lo (c.loop-lo.lo + 512) c.loop-r.r c.loop-r-test.true (c.loop-r.invariant c.args.words.now c.requires c.loop-lo.invariant) c.nearest_w-order.result c.nearest_w-order.ensures c.notes_w-notes.result c.notes_w-notes.ensures c.if-p-eq-UNSAID.s (elim c.if-p-eq-UNSAID.branch [ then-p-eq-UNSAID v ↦ not_said _ _ v.if-p-eq-UNSAID.true (v.s-is ∙ v.edge_spans-s.ensures) | else-p-eq-UNSAID v ↦ is_said _ _ v.if-p-eq-UNSAID.false (v.s-is ∙ v.said-s.ensures) ]) c.cut_both.result c.cut_both.ensures
 
 pub loop-r-preserved : goal.loop-r-preserved
 loop-r-preserved c =
     λ w pre t.
-    ⊎_elim
-    (λ v. rw v.8 (scattered_more c.args.k c.args.floats.now c.args.x c.args.total c.args.n w pre c.starts_w-starts.result c.starts_w-starts.ensures c.wide-refs.result c.wide-refs.ensures c.loop-r.words c.loop-lo.lo (c.loop-lo.lo + 512) c.loop-r.r c.loop-r-test.true (c.loop-r.invariant w pre t) c.nearest_w-order.result c.nearest_w-order.ensures c.notes_w-notes.result c.notes_w-notes.ensures v.2.s
-    (⊎_elim (λ v. not_said _ _ v.0.taken (v.2 ∙ v.1.ensures)) (λ v. is_said _ _ v.0.left (v.2 ∙ v.1.ensures)) v.2.came) v.4.result v.4.ensures v.5.last.0 v.5.kept.0 v.5.ensures))
-    (λ v. rw v.1 (scattered_skip c.args.k c.args.floats.now c.args.x c.args.total c.args.n w pre c.starts_w-starts.result c.starts_w-starts.ensures c.wide-refs.result c.wide-refs.ensures c.loop-r.words c.loop-lo.lo (c.loop-lo.lo + 512) c.loop-r.r c.loop-r-test.true (c.loop-r.invariant w pre t) c.nearest_w-order.result c.nearest_w-order.ensures c.notes_w-notes.result c.notes_w-notes.ensures _ refl _ refl
-    (passed_by _ c.loop-lo.lo (c.loop-lo.lo + 512) _ (omega (arith, c.requires.few, c.wide-count.ensures)) (omega arith) (sym c.meets.ensures ∙ v.0.left))))
-    c.if-meets.branch
+    elim c.if-meets.branch [
+      then-meets v ↦ rw v.words-is (scattered_more c.args.k c.args.floats.now c.args.x c.args.total c.args.n w pre c.starts_w-starts.result c.starts_w-starts.ensures c.wide-refs.result c.wide-refs.ensures c.loop-r.words c.loop-lo.lo (c.loop-lo.lo + 512) c.loop-r.r c.loop-r-test.true (c.loop-r.invariant w pre t) c.nearest_w-order.result c.nearest_w-order.ensures c.notes_w-notes.result c.notes_w-notes.ensures v.if-p-eq-UNSAID.s
+    (elim v.if-p-eq-UNSAID.branch [ then-p-eq-UNSAID u ↦ not_said _ _ u.if-p-eq-UNSAID.true (u.s-is ∙ u.edge_spans-s.ensures) | else-p-eq-UNSAID u ↦ is_said _ _ u.if-p-eq-UNSAID.false (u.s-is ∙ u.said-s.ensures) ]) v.cut_both.result v.cut_both.ensures v.put_edge.new.w v.put_edge.auto.w v.put_edge.ensures)
+    | else-meets v ↦ rw v.words-is (scattered_skip c.args.k c.args.floats.now c.args.x c.args.total c.args.n w pre c.starts_w-starts.result c.starts_w-starts.ensures c.wide-refs.result c.wide-refs.ensures c.loop-r.words c.loop-lo.lo (c.loop-lo.lo + 512) c.loop-r.r c.loop-r-test.true (c.loop-r.invariant w pre t) c.nearest_w-order.result c.nearest_w-order.ensures c.notes_w-notes.result c.notes_w-notes.ensures _ refl _ refl
+    (passed_by _ c.loop-lo.lo (c.loop-lo.lo + 512) _ (omega (arith, c.requires.few, c.wide-count.ensures)) (omega arith) (sym c.meets.ensures ∙ v.if-meets.false))) ]
 
 pub loop-lo-preserved : goal.loop-lo-preserved
 loop-lo-preserved c = scattered_close c.args.k c.args.floats.now c.args.x c.args.total c.args.n c.args.words.now c.requires c.starts_w-starts.result c.starts_w-starts.ensures c.wide-refs.result c.wide-refs.ensures c.loop-r.words _ _ c.loop-r.r (omega arith) (omega arith) (c.loop-r.invariant c.args.words.now c.requires c.loop-lo.invariant)
