@@ -1,9 +1,9 @@
-// Words of hexadecimal digits, line by line, from standard input.
+// Words of hexadecimal digits, line by line, from a reader, for which the replays lend standard input. A read that fails counts as its end.
 // What is left of the chunk that was read last stands from `at` up to `len`.
 ghost use Rattle.std.specs.Prelude.{◌≡◌, true, ◌≤◌, length};
 
 use crate::push;
-use libc::STDIN_FILENO;
+use std::io::Read;
 
 // A byte, or 256 at the end of the input, and what is left then.
 #[derive(Clone, Copy)]
@@ -17,7 +17,7 @@ fn wide(b: u8) -> u32 {
     b as u32
 }
 
-fn next_byte(chunk: &mut [u8], at: usize, len: usize) -> Byte {
+fn next_byte<R: Read>(input: &mut R, chunk: &mut [u8], at: usize, len: usize) -> Byte {
     if at < len {
         if at < chunk.len() {
             return Byte {
@@ -27,8 +27,7 @@ fn next_byte(chunk: &mut [u8], at: usize, len: usize) -> Byte {
             };
         }
     }
-    let got = libc::read(STDIN_FILENO, chunk);
-    let n = io::count(got, chunk);
+    let n = input.read(chunk).unwrap_or(0);
     if 0 < n {
         if 0 < chunk.len() {
             return Byte {
@@ -88,7 +87,13 @@ pub fn ended() -> Line
 }
 
 // Reads a line; what stands after the words that there is room for is passed over.
-pub fn read_line(chunk: &mut [u8], from: usize, to: usize, out: &mut [u64]) -> Line
+pub fn read_line<R: Read>(
+    input: &mut R,
+    chunk: &mut [u8],
+    from: usize,
+    to: usize,
+    out: &mut [u64],
+) -> Line
     ensures { result.words ≤ length out.old }
 {
     let mut at = from;
@@ -98,7 +103,7 @@ pub fn read_line(chunk: &mut [u8], from: usize, to: usize, out: &mut [u64]) -> L
     let mut left: u32 = 1000000;
     while 0 < left {
         left -= 1;
-        let b = next_byte(chunk, at, len);
+        let b = next_byte(input, chunk, at, len);
         at = b.at;
         len = b.len;
         let v = b.value;

@@ -3,11 +3,11 @@
 
 ghost use Rattle.std.specs.Prelude.{◌≡◌, ◌≤◌, length};
 
-use libc::STDIN_FILENO;
+use std::io::Read;
 
 // Reads into the text until it is full or the input ends, and answers how many bytes it has. Where a read fails, all of it: a text that is too long.
 // Each read but the last brings a byte or more, so there are at most as many reads as bytes.
-pub fn read_text(text: &mut [u8]) -> usize
+pub fn read_text<R: Read>(input: &mut R, text: &mut [u8]) -> usize
     ensures { result ≤ length text.new }
 {
     let most = text.len();
@@ -15,14 +15,11 @@ pub fn read_text(text: &mut [u8]) -> usize
     let mut left = most;
     while 0 < left {
         left -= 1;
-        let got = libc::read(STDIN_FILENO, &mut text[n..most]);
-        if got < 0 {
-            return most;
+        match input.read(&mut text[n..most]) {
+            Err(_) => return most,
+            Ok(0) => return n,
+            Ok(got) => n = lists::least(n + got, most),
         }
-        if got == 0 {
-            return n;
-        }
-        n = lists::least(n + io::count(got, &*text), most);
     }
     n
 }

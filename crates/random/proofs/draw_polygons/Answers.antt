@@ -4,7 +4,7 @@ use Rattle.random.specs.Draws.{state_of, len_at, points_to, points_of, lens_of}
 use Rattle.rng.specs.declared.Draw.{Draw}
 use Rattle.lists.specs.Lists.{listed, sum_to}
 use lib.Seq.{sets}
-use Rattle.std.proofs.Common.{◌≡◌, ℕ, ◌-◌, ◌*◌, refl, ap, ◌∙◌, le_antisymm, arith}
+use Rattle.std.proofs.Common.{◌≡◌, ℕ, ◌*◌, refl, ap, ◌∙◌, le_antisymm, arith}
 use Rattle.random.proofs.draw_polygons.Goals as goal
 
 pub loop-k-init : goal.loop-k-init

@@ -3,7 +3,7 @@ use Rattle.random.proofs.Drawing.{corner_is, next_state, next_corner}
 use Rattle.random.specs.Draws.{state_at, ring_of}
 use Rattle.geom.specs.declared.Vec2.{Vec2}
 use lib.Seq.{sets}
-use Rattle.std.proofs.Common.{◌≡◌, ℕ, ◌+◌, ◌-◌, ◌*◌, refl, ap, ◌∙◌, le_antisymm, arith}
+use Rattle.std.proofs.Common.{◌≡◌, ℕ, ◌+◌, ◌*◌, refl, ap, ◌∙◌, le_antisymm, arith}
 use Rattle.random.proofs.draw_ring.Goals as goal
 
 pub loop-i-init : goal.loop-i-init

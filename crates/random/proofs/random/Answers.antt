@@ -2,7 +2,7 @@
 use Rattle.random.proofs.Ways.{drawn_points, drawn_lens, too_many, too_large, made}
 use Rattle.random.specs.Outcome.{in_random_size}
 use Rattle.random.specs.declared.SceneConfig.{SceneConfig}
-use Rattle.std.proofs.Common.{◌≡◌, Bool, ◌&&◌, ◌∙◌}
+use Rattle.std.proofs.Common.{◌≡◌, Bool, ◌&&◌, ◌∙◌, arith}
 use Rattle.random.proofs.random.Goals as goal
 
 sizes : (config : SceneConfig) (a b : Bool) → a ≡ in_random_size config.width → b ≡ in_random_size config.height → (in_random_size config.width && in_random_size config.height) ≡ (a && b)
@@ -16,7 +16,8 @@ returns-then-not-sizes c = too_large c.args.config _ c.if-n-gt-POLYGONS.false (s
 
 pub returns : goal.returns
 returns c =
+    let d = c.draw_polygons-count in
     made c.args.config _ c.if-n-gt-POLYGONS.false (sizes c.args.config _ _ c.in_random_size.ensures c.in_random_size-2.ensures ∙ c.if-not-sizes.false)
-    (drawn_points c.args.config c.draw_polygons-count.ensures (part_new_end (goal.at?After-given-2-1)))
-    (drawn_lens c.args.config c.draw_polygons-count.ensures (part_new_end_2 (goal.at?After-new-arg-1)))
+    (drawn_points c.args.config d.ensures (omega (arith, d.ensures.few, d.auto.given)))
+    (drawn_lens c.args.config d.ensures (omega (arith, d.auto.lens)))
     c.new.ensures
