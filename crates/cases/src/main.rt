@@ -5,7 +5,8 @@
 // `planner::answer` answers, then a line 3 DECIMALS and what `planner::answer_three` does.
 #![tactic(auto)]
 
-use libc::{STDIN_FILENO, STDOUT_FILENO};
+use std::io;
+use std::io::Read;
 
 // One byte more than a text may have.
 const MOST: usize = 16385;
@@ -25,77 +26,81 @@ fn wide(b: u8) -> usize {
 }
 
 // The next byte of a case's line, printed; 0 at the end of the input.
-fn next_byte() -> u8 {
+fn next_byte(rt: HostRuntime) -> io::Result<u8> {
     let mut byte = [0u8; 1];
-    if io::read_full(STDIN_FILENO, &mut byte) == 0 {
-        return 0;
+    if rt.stdin().read(&mut byte)? == 0 {
+        return Ok(0);
     }
-    io::write_all(STDOUT_FILENO, &byte);
-    byte[0]
+    rt.write_all(&byte)?;
+    Ok(byte[0])
 }
 
 // The number that a case's line begins with, five digits at most, and the space after it.
-fn read_bytes() -> Case {
+fn read_bytes(rt: HostRuntime) -> io::Result<Case> {
     let mut n: usize = 0;
     let mut left: u32 = 6;
     while 0 < left {
         left -= 1;
-        let b = next_byte();
+        let b = next_byte(rt)?;
         if b == b' ' {
-            return Case::Text(n);
+            return Ok(Case::Text(n));
         }
         if b == 0 {
-            return Case::End;
+            return Ok(Case::End);
         }
         n = n % 10000 * 10 + wide(b) % 16;
     }
-    Case::End
+    Ok(Case::End)
 }
 
 // The name, up to the end of its line.
-fn pass_name() {
+fn pass_name(rt: HostRuntime) -> io::Result<()> {
     let mut left: u32 = 1000;
     while 0 < left {
         left -= 1;
-        if next_byte() == b'\n' {
-            return;
+        if next_byte(rt)? == b'\n' {
+            return Ok(());
         }
     }
+    Ok(())
 }
 
 // Prints an answer of r bytes. What is longer than the room for it is not printed.
-fn print_answer(r: usize, out: &[u8]) {
+fn print_answer(rt: HostRuntime, r: usize, out: &[u8]) -> io::Result<()> {
     if r <= out.len() {
-        io::write_all(STDOUT_FILENO, &out[0..r]);
+        rt.write_all(&out[0..r])?;
     }
+    Ok(())
 }
 
 // Reads a text of n bytes and the LF after it, and prints both answers.
-fn print_case(n: usize, text: &mut [u8], out: &mut [u8]) {
+fn print_case(rt: HostRuntime, n: usize, text: &mut [u8], out: &mut [u8]) -> io::Result<()> {
     if n <= text.len() {
-        let got = io::read_full(STDIN_FILENO, &mut text[0..n]);
+        let got = reading::read_text(&mut rt.stdin(), &mut text[0..n]);
         let mut end = [0u8; 1];
-        io::read_full(STDIN_FILENO, &mut end);
+        reading::read_text(&mut rt.stdin(), &mut end);
         let r = planner::answer(&text[0..got], &mut *out);
-        print_answer(r, &*out);
-        io::write_all(STDOUT_FILENO, b"3 DECIMALS\n");
+        print_answer(rt, r, &*out)?;
+        rt.write_all(b"3 DECIMALS\n")?;
         let k = planner::answer_three(&text[0..got], &mut *out);
-        print_answer(k, &*out);
+        print_answer(rt, k, &*out)?;
     }
+    Ok(())
 }
 
-fn main() {
+fn main(rt: HostRuntime) -> io::Result<()> {
     let mut text = [0u8; MOST];
     let mut out = [0u8; ROOM];
     let mut left: u32 = 1000;
     while 0 < left {
         left -= 1;
-        match read_bytes() {
+        match read_bytes(rt)? {
             Case::Text(n) => {
-                pass_name();
-                print_case(n, &mut text, &mut out);
+                pass_name(rt)?;
+                print_case(rt, n, &mut text, &mut out)?;
             }
             Case::End => left = 0,
         }
     }
+    Ok(())
 }

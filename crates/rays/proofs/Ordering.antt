@@ -30,7 +30,7 @@ use Rattle.cone.specs.declared.View.{View}
 use Rattle.room.specs.declared.Rooms.{Rooms}
 use Rattle.room.specs.declared.Sample.{Sample}
 use Rattle.room.specs.Layout.{samples_f, floats_for, samples_w, order_w, seen_w}
-use Rattle.room.specs.Records.{sample_at, samples_in, tie_at, Noted}
+use Rattle.room.specs.Records.{sample_at, samples_in, Noted}
 use Rattle.room.proofs.Kept.{sample_kept, samples_kept, tie_kept}
 use Rattle.index.specs.declared.AngularIndex.{AngularIndex}
 use Rattle.index.specs.Angular.{Index}

@@ -9,11 +9,11 @@ mod call;
 mod inner;
 mod plane;
 
-use libc::STDOUT_FILENO;
 use lines::{input, one_if_not};
+use std::io;
 
-fn print(text: &[u8]) {
-    io::write_all(STDOUT_FILENO, text);
+fn print(rt: &impl Print, text: &[u8]) -> io::Result<()> {
+    rt.write_all(text)
 }
 
 // How far the replay is. The lines of one function stand together, so a change of number is a new function.
@@ -45,17 +45,17 @@ fn replayed(t: Tally, words: &[u64], n: usize, results: &mut [u64]) -> Tally {
     counted(t, lines::word(words, 0), ok)
 }
 
-fn report(t: Tally) {
-    io::print_decimal(STDOUT_FILENO, t.lines);
-    print(b" answers of ");
-    io::print_decimal(STDOUT_FILENO, t.functions);
-    print(b" functions, ");
-    io::print_decimal(STDOUT_FILENO, t.differ);
-    print(b" differ\n");
+fn report(rt: &impl Print, t: Tally) -> io::Result<()> {
+    rt.print(t.lines)?;
+    print(rt, b" answers of ")?;
+    rt.print(t.functions)?;
+    print(rt, b" functions, ")?;
+    rt.print(t.differ)?;
+    print(rt, b" differ\n")
 }
 
 // Line by line. The budget is far above any sample, so that the loop ends whatever is read.
-fn main() {
+fn main(rt: HostRuntime) -> io::Result<()> {
     let mut chunk = [0u8; 16384];
     let mut words = [0u64; 1024];
     let mut results = [0u64; 256];
@@ -70,7 +70,7 @@ fn main() {
     let mut left: u32 = 4000000;
     while 0 < left {
         left -= 1;
-        let line = input::read_line(&mut chunk, at, len, &mut words);
+        let line = input::read_line(&mut rt.stdin(), &mut chunk, at, len, &mut words);
         at = line.at;
         len = line.len;
         if line.end {
@@ -79,5 +79,5 @@ fn main() {
             t = replayed(t, &words, line.words, &mut results);
         }
     }
-    report(t);
+    report(&rt, t)
 }

@@ -5,6 +5,7 @@ ghost use Rattle.std.specs.Prelude.{◌<◌};
 use crate::tally::{Place, Tally};
 use crate::{call, results, tally};
 use lines::{float, input, narrow, push, push_floats, push_list, wide, word};
+use std::io::Read;
 
 // The number of a line that builds a site.
 const SITE: u64 = 601;
@@ -180,7 +181,8 @@ fn answered(
 }
 
 // Asks the site, line by line, up to the next site's line. The budget is far above any sample, so that the loop ends whatever is read.
-fn asked(
+fn asked<R: Read>(
+    reader: &mut R,
     p: Place,
     head: &[f64; 6],
     counts: &[u32; 5],
@@ -199,7 +201,7 @@ fn asked(
     let mut left: u32 = 1000000;
     while 0 < left {
         left -= 1;
-        line = input::read_line(&mut *chunk, line.at, line.len, &mut *words);
+        line = input::read_line(&mut *reader, &mut *chunk, line.at, line.len, &mut *words);
         if line.end {
             return Place { tally: t, line };
         }
@@ -228,7 +230,8 @@ fn asked(
 }
 
 // The line of a site that was built, or refused with this status, and then those that ask it.
-fn asked_of(
+fn asked_of<R: Read>(
+    reader: &mut R,
     status: u32,
     p: Place,
     head: &[f64; 6],
@@ -259,6 +262,7 @@ fn asked_of(
     let ok = lines::same_tail(words, line.words, results, r);
     let t = tally::with_site(tally::counted(p.tally, word(words, 0), ok));
     asked(
+        reader,
         Place { tally: t, line },
         head,
         counts,
@@ -275,7 +279,8 @@ fn asked_of(
 }
 
 // A line of 601 and those that ask its site; what is counted then, and the next site's line.
-pub(crate) fn replayed(
+pub(crate) fn replayed<R: Read>(
+    reader: &mut R,
     p: Place,
     chunk: &mut [u8],
     words: &mut [u64],
@@ -301,7 +306,7 @@ pub(crate) fn replayed(
         &mut counts,
     );
     asked_of(
-        status, p, &head, &counts, &points, &boxes, &polygons, &owners, &starts, &items, chunk,
-        words, results,
+        reader, status, p, &head, &counts, &points, &boxes, &polygons, &owners, &starts, &items,
+        chunk, words, results,
     )
 }

@@ -11,31 +11,32 @@ mod questions;
 mod results;
 mod tally;
 
-use libc::STDOUT_FILENO;
 use lines::input;
+use std::io;
 use tally::Tally;
 
-fn print(text: &[u8]) {
-    io::write_all(STDOUT_FILENO, text);
+fn print(rt: &impl Print, text: &[u8]) -> io::Result<()> {
+    rt.write_all(text)
 }
 
-fn report(t: Tally) {
-    io::print_decimal(STDOUT_FILENO, t.lines);
-    print(b" answers of ");
-    io::print_decimal(STDOUT_FILENO, t.functions);
-    print(b" functions over ");
-    io::print_decimal(STDOUT_FILENO, t.sites);
-    print(b" sites, ");
-    io::print_decimal(STDOUT_FILENO, t.differ);
-    print(b" differ\n");
+fn report(rt: &impl Print, t: Tally) -> io::Result<()> {
+    rt.print(t.lines)?;
+    print(rt, b" answers of ")?;
+    rt.print(t.functions)?;
+    print(rt, b" functions over ")?;
+    rt.print(t.sites)?;
+    print(rt, b" sites, ")?;
+    rt.print(t.differ)?;
+    print(rt, b" differ\n")
 }
 
 // Site by site. The budget is far above any sample, so that the loop ends whatever is read.
-fn main() {
+fn main(rt: HostRuntime) -> io::Result<()> {
+    let mut stdin = rt.stdin();
     let mut chunk = [0u8; 16384];
     let mut words = [0u64; 2048];
     let mut results = [0u64; 1536];
-    let first = input::read_line(&mut chunk, 0, 0, &mut words);
+    let first = input::read_line(&mut stdin, &mut chunk, 0, 0, &mut words);
     let mut at = tally::Place {
         tally: tally::none(),
         line: first,
@@ -46,8 +47,8 @@ fn main() {
         if at.line.end {
             left = 0;
         } else {
-            at = current::replayed(at, &mut chunk, &mut words, &mut results);
+            at = current::replayed(&mut stdin, at, &mut chunk, &mut words, &mut results);
         }
     }
-    report(at.tally);
+    report(&rt, at.tally)
 }

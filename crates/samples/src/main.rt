@@ -6,74 +6,75 @@ use build::Made;
 use cone::ViewCone;
 use geom::{Aabb, Vec2};
 use grid::Listing;
-use libc::STDOUT_FILENO;
 use rng::Rng;
 use room::Rooms;
 use scene::{Found, Look};
 use site::{Cast, Site};
 use stages::{Shown, Visibility};
+use std::io;
 
 // ---- printing
 
-fn print(text: &[u8]) {
-    io::write_all(STDOUT_FILENO, text);
+fn print(rt: &impl Print, text: &[u8]) -> io::Result<()> {
+    rt.write_all(text)
 }
 
-fn print_number(text: &[u8], n: u64) {
-    print(text);
-    io::print_decimal(STDOUT_FILENO, n);
+fn print_number(rt: &impl Print, text: &[u8], n: u64) -> io::Result<()> {
+    print(rt, text)?;
+    rt.print(n)
 }
 
-fn print_u32(text: &[u8], n: u32) {
-    print_number(text, n as u64);
+fn print_u32(rt: &impl Print, text: &[u8], n: u32) -> io::Result<()> {
+    print_number(rt, text, n as u64)
 }
 
-fn print_size(text: &[u8], n: usize) {
-    print_number(text, n as u64);
+fn print_size(rt: &impl Print, text: &[u8], n: usize) -> io::Result<()> {
+    print_number(rt, text, n as u64)
 }
 
 // x from 0 up, with one decimal, cut off.
-fn print_tenths(x: f64) {
+fn print_tenths(rt: &impl Print, x: f64) -> io::Result<()> {
     let n = num::to_u64(x * 10.0);
-    print_number(b"", n / 10);
-    print_number(b".", n % 10);
+    print_number(rt, b"", n / 10)?;
+    print_number(rt, b".", n % 10)
 }
 
-fn print_float(text: &[u8], x: f64) {
-    print(text);
+fn print_float(rt: &impl Print, text: &[u8], x: f64) -> io::Result<()> {
+    print(rt, text)?;
     if x < 0.0 {
-        print(b"-");
-        print_tenths(0.0 - x);
-        return;
+        print(rt, b"-")?;
+        return print_tenths(rt, 0.0 - x);
     }
-    print_tenths(x);
+    print_tenths(rt, x)
 }
 
-fn print_refused(n: u32) {
-    print_u32(b"refused as ", n);
-    print(b"\n");
+fn print_refused(rt: &impl Print, n: u32) -> io::Result<()> {
+    print_u32(rt, b"refused as ", n)?;
+    print(rt, b"\n")
 }
 
 // ---- what is asked of a site
 
 // Cell, columns, rows and items.
-fn show_head(text: &[u8], site: Site) {
-    print(text);
-    print_float(b"cell ", site.grid.cell);
-    print_u32(b", columns ", site.grid.cols);
-    print_u32(b", rows ", site.grid.rows);
-    print_u32(b", items ", site.items);
-    print(b"\n");
+fn show_head(rt: &impl Print, text: &[u8], site: Site) -> io::Result<()> {
+    print(rt, text)?;
+    print_float(rt, b"cell ", site.grid.cell)?;
+    print_u32(rt, b", columns ", site.grid.cols)?;
+    print_u32(rt, b", rows ", site.grid.rows)?;
+    print_u32(rt, b", items ", site.items)?;
+    print(rt, b"\n")
 }
 
-fn show_id(listed: bool, id: u32) {
+fn show_id(rt: &impl Print, listed: bool, id: u32) -> io::Result<()> {
     if listed {
-        print_u32(b" ", id);
+        print_u32(rt, b" ", id)?;
     }
+    Ok(())
 }
 
 // The box query, in room for two ids, with one mark and this epoch before it.
 fn show_near(
+    rt: &impl Print,
     text: &[u8],
     site: Site,
     points: &[f64],
@@ -85,28 +86,29 @@ fn show_near(
     b: Aabb,
     mark: u32,
     before: u32,
-) {
+) -> io::Result<()> {
     let mut marks = [mark; 2];
     let mut epoch = before;
     let mut ids = [0u32; 2];
     let r = scene::polygons_near(
         site, points, boxes, polygons, owners, starts, items, b, &mut marks, &mut epoch, &mut ids,
     );
-    print(text);
+    print(rt, text)?;
     match r {
-        Listing::Refused(n) => print_refused(n),
+        Listing::Refused(n) => print_refused(rt, n),
         Listing::Listed { written, read } => {
-            print(b"lists");
-            show_id(0 < written, ids[0]);
-            show_id(1 < written, ids[1]);
-            print_size(b", reads ", read);
-            print_u32(b", epoch ", epoch);
-            print(b"\n");
+            print(rt, b"lists")?;
+            show_id(rt, 0 < written, ids[0])?;
+            show_id(rt, 1 < written, ids[1])?;
+            print_size(rt, b", reads ", read)?;
+            print_u32(rt, b", epoch ", epoch)?;
+            print(rt, b"\n")
         }
     }
 }
 
 fn show_at(
+    rt: &impl Print,
     text: &[u8],
     site: Site,
     points: &[f64],
@@ -116,31 +118,32 @@ fn show_at(
     starts: &[u32],
     items: &[u32],
     p: Vec2,
-) {
+) -> io::Result<()> {
     let r = scene::polygon_at(site, points, boxes, polygons, owners, starts, items, p);
-    print(text);
+    print(rt, text)?;
     match r {
-        Found::Refused(n) => print_refused(n),
-        Found::Nobody => print(b"nobody\n"),
+        Found::Refused(n) => print_refused(rt, n),
+        Found::Nobody => print(rt, b"nobody\n"),
         Found::Id(id) => {
-            print_u32(b"polygon ", id);
-            print(b"\n");
+            print_u32(rt, b"polygon ", id)?;
+            print(rt, b"\n")
         }
     }
 }
 
-fn show_cast(hit: Cast) {
+fn show_cast(rt: &impl Print, hit: Cast) -> io::Result<()> {
     match hit {
-        Cast::Miss => print(b"a miss"),
+        Cast::Miss => print(rt, b"a miss"),
         Cast::Hit(t, edge) => {
-            print_u32(b"edge ", edge);
-            print_float(b" at ", t);
+            print_u32(rt, b"edge ", edge)?;
+            print_float(rt, b" at ", t)
         }
     }
 }
 
 // The ray from o along (1, 0), length 100, in mode 0.
 fn show_ray(
+    rt: &impl Print,
     text: &[u8],
     site: Site,
     points: &[f64],
@@ -150,18 +153,18 @@ fn show_ray(
     starts: &[u32],
     items: &[u32],
     o: Vec2,
-) {
+) -> io::Result<()> {
     let d = Vec2 { x: 1.0, y: 0.0 };
     let r = scene::cast_ray(
         site, points, boxes, polygons, owners, starts, items, o, d, 100.0, 0,
     );
-    print(text);
+    print(rt, text)?;
     match r {
-        Look::Refused(n) => print_refused(n),
+        Look::Refused(n) => print_refused(rt, n),
         Look::Seen { hit, cells } => {
-            show_cast(hit);
-            print_size(b", cells ", cells);
-            print(b"\n");
+            show_cast(rt, hit)?;
+            print_size(rt, b", cells ", cells)?;
+            print(rt, b"\n")
         }
     }
 }
@@ -181,26 +184,25 @@ fn rooms() -> Rooms {
     }
 }
 
-fn show_shown(s: Shown) {
+fn show_shown(rt: &impl Print, s: Shown) -> io::Result<()> {
     if s.blocked {
-        print(b"blocked\n");
-        return;
+        return print(rt, b"blocked\n");
     }
     if s.points == 0 {
-        print(b"empty\n");
-        return;
+        return print(rt, b"empty\n");
     }
     if s.full {
-        print(b"full");
+        print(rt, b"full")?;
     } else {
-        print(b"a sector");
+        print(rt, b"a sector")?;
     }
-    print_size(b", points ", s.points);
-    print(b"\n");
+    print_size(rt, b", points ", s.points)?;
+    print(rt, b"\n")
 }
 
 // The outline of this cone, tolerance 0.1, in room for 128 points and two ids.
 fn show_post(
+    rt: &impl Print,
     text: &[u8],
     site: Site,
     points: &[f64],
@@ -210,7 +212,7 @@ fn show_post(
     starts: &[u32],
     items: &[u32],
     cone: ViewCone,
-) {
+) -> io::Result<()> {
     let mut marks = [0u32; 2];
     let mut epoch: u32 = 0;
     let mut floats = [0.0; 572];
@@ -236,10 +238,10 @@ fn show_post(
         &mut outline,
         &mut visible,
     );
-    print(text);
+    print(rt, text)?;
     match r {
-        Visibility::Refused(n) => print_refused(n),
-        Visibility::Seen(s) => show_shown(s),
+        Visibility::Refused(n) => print_refused(rt, n),
+        Visibility::Seen(s) => show_shown(rt, s),
     }
 }
 
@@ -255,6 +257,7 @@ fn box_of(low: f64, high: f64) -> Aabb {
 
 // What is asked of site A: P1, P2, P3, P8, P9 and P10.
 fn ask_a(
+    rt: &impl Print,
     site: Site,
     points: &[f64],
     boxes: &[f64],
@@ -262,28 +265,28 @@ fn ask_a(
     owners: &[u32],
     starts: &[u32],
     items: &[u32],
-) {
+) -> io::Result<()> {
     let p2 = box_of(5.0, 6.0);
-    show_head(b"P1 ", site);
+    show_head(rt, b"P1 ", site)?;
     show_near(
-        b"P2 ", site, points, boxes, polygons, owners, starts, items, p2, 0, 0,
-    );
+        rt, b"P2 ", site, points, boxes, polygons, owners, starts, items, p2, 0, 0,
+    )?;
     let p3 = box_of(6.0, 7.0);
     show_near(
-        b"P3 ", site, points, boxes, polygons, owners, starts, items, p3, 0, 0,
-    );
+        rt, b"P3 ", site, points, boxes, polygons, owners, starts, items, p3, 0, 0,
+    )?;
     let p8 = Vec2 { x: 0.5, y: 3.0 };
     show_ray(
-        b"P8 ", site, points, boxes, polygons, owners, starts, items, p8,
-    );
+        rt, b"P8 ", site, points, boxes, polygons, owners, starts, items, p8,
+    )?;
     let p9 = Vec2 { x: 0.5, y: 0.5 };
     show_ray(
-        b"P9 ", site, points, boxes, polygons, owners, starts, items, p9,
-    );
+        rt, b"P9 ", site, points, boxes, polygons, owners, starts, items, p9,
+    )?;
     // the mark 1 of long ago is cleared as the epoch wraps
     show_near(
-        b"P10 ", site, points, boxes, polygons, owners, starts, items, p2, 1, 4294967295,
-    );
+        rt, b"P10 ", site, points, boxes, polygons, owners, starts, items, p2, 1, 4294967295,
+    )
 }
 
 // A cone from (x, y) along (1, 0).
@@ -293,6 +296,7 @@ fn cone_at(x: f64, y: f64, range: f64, view: f64) -> ViewCone {
 
 // Run: posts on site A, the whole way round.
 fn ask_posts(
+    rt: &impl Print,
     site: Site,
     points: &[f64],
     boxes: &[f64],
@@ -300,8 +304,9 @@ fn ask_posts(
     owners: &[u32],
     starts: &[u32],
     items: &[u32],
-) {
+) -> io::Result<()> {
     show_post(
+        rt,
         b"post (2, 3), range 5: ",
         site,
         points,
@@ -311,8 +316,9 @@ fn ask_posts(
         starts,
         items,
         cone_at(2.0, 3.0, 5.0, 7.0),
-    );
+    )?;
     show_post(
+        rt,
         b"post (4, 3), range 5: ",
         site,
         points,
@@ -322,8 +328,9 @@ fn ask_posts(
         starts,
         items,
         cone_at(4.0, 3.0, 5.0, 7.0),
-    );
+    )?;
     show_post(
+        rt,
         b"post (1, 1), range 0: ",
         site,
         points,
@@ -333,8 +340,9 @@ fn ask_posts(
         starts,
         items,
         cone_at(1.0, 1.0, 0.0, 7.0),
-    );
+    )?;
     show_post(
+        rt,
         b"post (1000000, 1), range 5: ",
         site,
         points,
@@ -344,8 +352,9 @@ fn ask_posts(
         starts,
         items,
         cone_at(1000000.0, 1.0, 5.0, 7.0),
-    );
+    )?;
     show_post(
+        rt,
         b"post (1000001, 1), range 5: ",
         site,
         points,
@@ -355,11 +364,12 @@ fn ask_posts(
         starts,
         items,
         cone_at(1000001.0, 1.0, 5.0, 7.0),
-    );
+    )
 }
 
 // Run: views from (1, 1) on site A, range 5.
 fn ask_views(
+    rt: &impl Print,
     site: Site,
     points: &[f64],
     boxes: &[f64],
@@ -367,8 +377,9 @@ fn ask_views(
     owners: &[u32],
     starts: &[u32],
     items: &[u32],
-) {
+) -> io::Result<()> {
     show_post(
+        rt,
         b"view 1e-9: ",
         site,
         points,
@@ -378,8 +389,9 @@ fn ask_views(
         starts,
         items,
         cone_at(1.0, 1.0, 5.0, 0.000000001),
-    );
+    )?;
     show_post(
+        rt,
         b"view 2e-9: ",
         site,
         points,
@@ -389,8 +401,9 @@ fn ask_views(
         starts,
         items,
         cone_at(1.0, 1.0, 5.0, 0.000000002),
-    );
+    )?;
     show_post(
+        rt,
         b"view 6.2831853062: ",
         site,
         points,
@@ -400,8 +413,9 @@ fn ask_views(
         starts,
         items,
         cone_at(1.0, 1.0, 5.0, 6.2831853062),
-    );
+    )?;
     show_post(
+        rt,
         b"view 6.2831853061: ",
         site,
         points,
@@ -411,11 +425,12 @@ fn ask_views(
         starts,
         items,
         cone_at(1.0, 1.0, 5.0, 6.2831853061),
-    );
+    )
 }
 
 // The samples to prove, or those about posts, which are only run.
 fn ask(
+    rt: &impl Print,
     posts: bool,
     site: Site,
     points: &[f64],
@@ -424,17 +439,16 @@ fn ask(
     owners: &[u32],
     starts: &[u32],
     items: &[u32],
-) {
+) -> io::Result<()> {
     if posts {
-        ask_posts(site, points, boxes, polygons, owners, starts, items);
-        ask_views(site, points, boxes, polygons, owners, starts, items);
-        return;
+        ask_posts(rt, site, points, boxes, polygons, owners, starts, items)?;
+        return ask_views(rt, site, points, boxes, polygons, owners, starts, items);
     }
-    ask_a(site, points, boxes, polygons, owners, starts, items);
+    ask_a(rt, site, points, boxes, polygons, owners, starts, items)
 }
 
 // Site A: 10 by 10, one square.
-fn site_a(posts: bool) {
+fn site_a(rt: &impl Print, posts: bool) -> io::Result<()> {
     let given = [2.0, 2.0, 4.0, 2.0, 4.0, 4.0, 2.0, 4.0];
     let lens = [4u32; 1];
     let mut points = [0.0; 8];
@@ -456,15 +470,16 @@ fn site_a(posts: bool) {
         &mut items,
     );
     match r {
-        Made::Refused(n) => print_refused(n),
+        Made::Refused(n) => print_refused(rt, n),
         Made::Site(site) => ask(
-            posts, site, &points, &boxes, &polygons, &owners, &starts, &items,
+            rt, posts, site, &points, &boxes, &polygons, &owners, &starts, &items,
         ),
     }
 }
 
 // P4.
 fn ask_twice(
+    rt: &impl Print,
     site: Site,
     points: &[f64],
     boxes: &[f64],
@@ -472,19 +487,19 @@ fn ask_twice(
     owners: &[u32],
     starts: &[u32],
     items: &[u32],
-) {
+) -> io::Result<()> {
     let whole = box_of(0.0, 10.0);
     show_near(
-        b"P4 ", site, points, boxes, polygons, owners, starts, items, whole, 0, 0,
-    );
+        rt, b"P4 ", site, points, boxes, polygons, owners, starts, items, whole, 0, 0,
+    )?;
     let p = Vec2 { x: 3.0, y: 3.0 };
     show_at(
-        b"P4 ", site, points, boxes, polygons, owners, starts, items, p,
-    );
+        rt, b"P4 ", site, points, boxes, polygons, owners, starts, items, p,
+    )
 }
 
 // The square twice.
-fn site_twice() {
+fn site_twice(rt: &impl Print) -> io::Result<()> {
     let given = [
         2.0, 2.0, 4.0, 2.0, 4.0, 4.0, 2.0, 4.0, 2.0, 2.0, 4.0, 2.0, 4.0, 4.0, 2.0, 4.0,
     ];
@@ -508,8 +523,10 @@ fn site_twice() {
         &mut items,
     );
     match r {
-        Made::Refused(n) => print_refused(n),
-        Made::Site(site) => ask_twice(site, &points, &boxes, &polygons, &owners, &starts, &items),
+        Made::Refused(n) => print_refused(rt, n),
+        Made::Site(site) => ask_twice(
+            rt, site, &points, &boxes, &polygons, &owners, &starts, &items,
+        ),
     }
 }
 
@@ -535,69 +552,69 @@ fn build_small(width: f64, height: f64, given: &[f64], lens: &[u32], points: &mu
 }
 
 // P5: no polygons, 10 by 4.
-fn site_bare() {
+fn site_bare(rt: &impl Print) -> io::Result<()> {
     let given = [0.0; 8];
     let lens = [0u32; 1];
     let mut points = [0.0; 8];
     match build_small(10.0, 4.0, &given[0..0], &lens[0..0], &mut points) {
-        Made::Refused(n) => print_refused(n),
-        Made::Site(site) => show_head(b"P5 ", site),
+        Made::Refused(n) => print_refused(rt, n),
+        Made::Site(site) => show_head(rt, b"P5 ", site),
     }
 }
 
 // A stored point.
-fn show_point(x: f64, y: f64) {
-    print_float(b" (", x);
-    print_float(b", ", y);
-    print(b")");
+fn show_point(rt: &impl Print, x: f64, y: f64) -> io::Result<()> {
+    print_float(rt, b" (", x)?;
+    print_float(rt, b", ", y)?;
+    print(rt, b")")
 }
 
 // P6: four points the wrong way round, and how they are stored.
-fn site_turned() {
+fn site_turned(rt: &impl Print) -> io::Result<()> {
     let given = [0.0, 0.0, 0.0, 2.0, 2.0, 2.0, 2.0, 0.0];
     let lens = [4u32; 1];
     let mut points = [0.0; 8];
-    print_float(b"P6 area ", geom::signed_area(&given));
+    print_float(rt, b"P6 area ", geom::signed_area(&given))?;
     match build_small(10.0, 10.0, &given, &lens, &mut points) {
-        Made::Refused(n) => print_refused(n),
+        Made::Refused(n) => print_refused(rt, n),
         Made::Site(site) => {
-            print(b", stored");
-            show_point(points[0], points[1]);
-            show_point(points[2], points[3]);
-            show_point(points[4], points[5]);
-            show_point(points[6], points[7]);
-            print(b"\n");
+            print(rt, b", stored")?;
+            show_point(rt, points[0], points[1])?;
+            show_point(rt, points[2], points[3])?;
+            show_point(rt, points[4], points[5])?;
+            show_point(rt, points[6], points[7])?;
+            print(rt, b"\n")
         }
     }
 }
 
 // P7.
-fn draw() {
+fn draw(rt: &impl Print) -> io::Result<()> {
     let g = Rng::new(1);
     let r = g.range(5, 5);
-    print_number(b"P7 range ", r.value);
-    print(b"\n");
+    print_number(rt, b"P7 range ", r.value)?;
+    print(rt, b"\n")
 }
 
 // Run: a triangle that reaches to this coordinate.
-fn reach(text: &[u8], far: f64) {
+fn reach(rt: &impl Print, text: &[u8], far: f64) -> io::Result<()> {
     let given = [0.0, 0.0, far, 0.0, far, 1.0];
     let lens = [3u32; 1];
     let mut points = [0.0; 8];
-    print(text);
+    print(rt, text)?;
     match build_small(10.0, 10.0, &given, &lens, &mut points) {
-        Made::Refused(n) => print_refused(n),
-        Made::Site(site) => print(b"taken\n"),
+        Made::Refused(n) => print_refused(rt, n),
+        Made::Site(site) => print(rt, b"taken\n"),
     }
 }
 
-fn main() {
-    site_a(false);
-    site_twice();
-    site_bare();
-    site_turned();
-    draw();
-    reach(b"coordinate 1000000 ", 1000000.0);
-    reach(b"coordinate 1000001 ", 1000001.0);
-    site_a(true);
+fn main(rt: HostRuntime) -> io::Result<()> {
+    site_a(&rt, false)?;
+    site_twice(&rt)?;
+    site_bare(&rt)?;
+    site_turned(&rt)?;
+    draw(&rt)?;
+    reach(&rt, b"coordinate 1000000 ", 1000000.0)?;
+    reach(&rt, b"coordinate 1000001 ", 1000001.0)?;
+    site_a(&rt, true)
 }

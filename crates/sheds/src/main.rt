@@ -6,13 +6,13 @@
 use build::Made;
 use cone::ViewCone;
 use geom::Vec2;
-use libc::STDOUT_FILENO;
 use room::Rooms;
 use site::Site;
 use stages::Visibility;
+use std::io;
 
-fn print(text: &[u8]) {
-    io::write_all(STDOUT_FILENO, text);
+fn print(rt: &impl Print, text: &[u8]) -> io::Result<()> {
+    rt.write_all(text)
 }
 
 // How deep the first of the two sheds is, and the second.
@@ -23,28 +23,27 @@ struct Depths {
 }
 
 // A shed by how deep it is. Id 0 is the one that was given first.
-fn print_shed(id: u32, depths: Depths) {
-    print(b" the one ");
+fn print_shed(rt: &impl Print, id: u32, depths: Depths) -> io::Result<()> {
+    print(rt, b" the one ")?;
     if id == 0 {
-        io::print_decimal(STDOUT_FILENO, num::to_u64(depths.first));
+        rt.print(num::to_u64(depths.first))?;
     } else {
-        io::print_decimal(STDOUT_FILENO, num::to_u64(depths.second));
+        rt.print(num::to_u64(depths.second))?;
     }
-    print(b" deep");
+    print(rt, b" deep")
 }
 
 // The first n of the two ids.
-fn print_seen(visible: &[u32; 2], n: usize, depths: Depths) {
+fn print_seen(rt: &impl Print, visible: &[u32; 2], n: usize, depths: Depths) -> io::Result<()> {
     if n == 0 {
-        print(b" none\n");
-        return;
+        return print(rt, b" none\n");
     }
-    print_shed(visible[0], depths);
+    print_shed(rt, visible[0], depths)?;
     if n == 2 {
-        print(b" and");
-        print_shed(visible[1], depths);
+        print(rt, b" and")?;
+        print_shed(rt, visible[1], depths)?;
     }
-    print(b"\n");
+    print(rt, b"\n")
 }
 
 // What stands for the entries of each list: enough for two sheds.
@@ -64,6 +63,7 @@ fn rooms() -> Rooms {
 
 // Who is seen from the post (4, -6), all around, as far as 40, in a mode.
 fn show_seen(
+    rt: &impl Print,
     mode: u32,
     depths: Depths,
     site: Site,
@@ -73,7 +73,7 @@ fn show_seen(
     owners: &[u32],
     starts: &[u32],
     items: &[u32],
-) {
+) -> io::Result<()> {
     let mut marks = [0u32; 2];
     let mut epoch: u32 = 0;
     let mut floats = [0.0; 572];
@@ -99,23 +99,24 @@ fn show_seen(
         &mut outline,
         &mut visible,
     );
-    print(b"    mode ");
-    io::print_decimal(STDOUT_FILENO, mode as u64);
+    print(rt, b"    mode ")?;
+    rt.print(mode as u64)?;
     match r {
         Visibility::Seen(s) => {
-            print(b" credits");
-            print_seen(&visible, s.visible, depths);
+            print(rt, b" credits")?;
+            print_seen(rt, &visible, s.visible, depths)
         }
         Visibility::Refused(n) => {
-            print(b" is refused as ");
-            io::print_decimal(STDOUT_FILENO, n as u64);
-            print(b"\n");
+            print(rt, b" is refused as ")?;
+            rt.print(n as u64)?;
+            print(rt, b"\n")
         }
     }
 }
 
 // Asks in both modes, and in one that there is not.
 fn ask(
+    rt: &impl Print,
     depths: Depths,
     site: Site,
     points: &[f64],
@@ -124,20 +125,20 @@ fn ask(
     owners: &[u32],
     starts: &[u32],
     items: &[u32],
-) {
+) -> io::Result<()> {
     show_seen(
-        0, depths, site, points, boxes, polygons, owners, starts, items,
-    );
+        rt, 0, depths, site, points, boxes, polygons, owners, starts, items,
+    )?;
     show_seen(
-        1, depths, site, points, boxes, polygons, owners, starts, items,
-    );
+        rt, 1, depths, site, points, boxes, polygons, owners, starts, items,
+    )?;
     show_seen(
-        2, depths, site, points, boxes, polygons, owners, starts, items,
-    );
+        rt, 2, depths, site, points, boxes, polygons, owners, starts, items,
+    )
 }
 
 // The two sheds in this order.
-fn show_sheds(depths: Depths) {
+fn show_sheds(rt: &impl Print, depths: Depths) -> io::Result<()> {
     let given = [
         0.0,
         0.0,
@@ -163,11 +164,11 @@ fn show_sheds(depths: Depths) {
     let mut owners = [0u32; 8];
     let mut starts = [0u32; 17];
     let mut items = [0u32; 32];
-    print(b"first the one ");
-    io::print_decimal(STDOUT_FILENO, num::to_u64(depths.first));
-    print(b" deep, then the one ");
-    io::print_decimal(STDOUT_FILENO, num::to_u64(depths.second));
-    print(b" deep:\n");
+    print(rt, b"first the one ")?;
+    rt.print(num::to_u64(depths.first))?;
+    print(rt, b" deep, then the one ")?;
+    rt.print(num::to_u64(depths.second))?;
+    print(rt, b" deep:\n")?;
     let r = build::new(
         0.0,
         0.0,
@@ -181,20 +182,26 @@ fn show_sheds(depths: Depths) {
         &mut items,
     );
     match r {
-        Made::Refused(_) => print(b"    the site is refused\n"),
+        Made::Refused(_) => print(rt, b"    the site is refused\n"),
         Made::Site(site) => ask(
-            depths, site, &points, &boxes, &polygons, &owners, &starts, &items,
+            rt, depths, site, &points, &boxes, &polygons, &owners, &starts, &items,
         ),
     }
 }
 
-fn main() {
-    show_sheds(Depths {
-        first: 5.0,
-        second: 9.0,
-    });
-    show_sheds(Depths {
-        first: 9.0,
-        second: 5.0,
-    });
+fn main(rt: HostRuntime) -> io::Result<()> {
+    show_sheds(
+        &rt,
+        Depths {
+            first: 5.0,
+            second: 9.0,
+        },
+    )?;
+    show_sheds(
+        &rt,
+        Depths {
+            first: 9.0,
+            second: 5.0,
+        },
+    )
 }

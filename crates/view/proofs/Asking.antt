@@ -43,7 +43,7 @@ use Rattle.stages.specs.Drawing.{Request, Drawing, eight, staged_of}
 use Rattle.stages.proofs.Gathers.{fit_kept}
 use Rattle.view.proofs.Named.{ids_named}
 use Rattle.stages.specs.Shows.{points_in, ids_in, Shows}
-use Rattle.view.specs.Outcome.{Lent, lent, Outcome, out, look_of, Looked, listed_by, planned, drawn_of, Cleared, request_of, seen_from_of, Drawable}
+use Rattle.view.specs.Outcome.{Lent, lent, out, look_of, Looked, listed_by, planned, drawn_of, Cleared, request_of, seen_from_of, Drawable}
 
 -- ---- `plan_of`
 module _ (g : Grid) (points boxes : List Float) (polygons starts items : List ℕ) (c : ViewCone) where

@@ -16,7 +16,6 @@ use Rattle.room.specs.Layout.{is_short}
 use Rattle.view.specs.declared.Plan.{Plan}
 use Rattle.view.specs.declared.Plan.TheVariants.{Empty, Inside, Query}
 use Rattle.stages.specs.declared.Visibility.{Visibility}
-use Rattle.stages.specs.declared.Visibility.TheVariants.{Refused}
 use Rattle.view.specs.Post.{plan_of}
 use Rattle.fan.specs.Fan.{Ready}
 use Rattle.stages.specs.Shows.{points_in, ids_in}

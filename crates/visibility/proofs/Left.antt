@@ -40,7 +40,7 @@ use Rattle.visibility.specs.Asked.{asked_in_domain, admit_of}
 use Rattle.view.specs.Post.{plan_of}
 use Rattle.stages.specs.Drawing.{Request, view_in, Drawing, eight, plain, fan_in, spots_for, events_over, circle_by, rays_over, run_of, swept_of, spotted, fanned, staged_of}
 use Rattle.view.specs.Outcome.{Lent, out, look_of, listed_by, planned, drawn_of, request_of, look_in, seen_from_of}
-use Rattle.visibility.specs.Outcome.{outcome_by, outcome}
+use Rattle.visibility.specs.Outcome.{outcome}
 
 -- ---- the stamps
 pub record SameStamps (x y : Lent) : Type 0 where

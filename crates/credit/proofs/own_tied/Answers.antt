@@ -1,6 +1,5 @@
 -- `own_tied`: what is left to credit, from here. Assumes nothing.
 use mathlib.Core.Path.{refl, ◌∙◌}
-use Prim.Native.Nat.{◌-◌}
 use native.Mathlib.Omega.{arith}
 use Rattle.credit.proofs.Ways.{turn, turned}
 use Rattle.credit.proofs.own_tied.Goals as goal

@@ -1,5 +1,5 @@
 -- `count_refs`: the references of the edges up to i. Assumes nothing.
-use Rattle.std.proofs.Common.{◌≡◌, suc, ◌+◌, ◌-◌, ◌*◌, ◌≤◌, refl, ap, ◌∙◌, add-one, arith}
+use Rattle.std.proofs.Common.{◌≡◌, suc, ◌+◌, ◌*◌, ◌≤◌, refl, ap, ◌∙◌, add-one, arith}
 use Rattle.index.specs.Spans.{edge_refs}
 use Rattle.index.specs.Filling.{spans_at, refs_to}
 use Rattle.index.proofs.Buckets.{refs_few, at_inside}

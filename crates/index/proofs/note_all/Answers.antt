@@ -1,5 +1,5 @@
 -- `note_all`: the first r of the order have their notes. Assumes nothing.
-use Rattle.std.proofs.Common.{◌-◌, arith}
+use Rattle.std.proofs.Common.{arith}
 use Rattle.index.proofs.Notes.{noting_none, note_fits, noting_more, noting_all}
 use Rattle.index.proofs.note_all.Goals as goal
 

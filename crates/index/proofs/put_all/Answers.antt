@@ -1,5 +1,5 @@
 -- `put_all`: the buckets up to lo are done, and those up to hi have the edges from r on. Assumes nothing.
-use Rattle.std.proofs.Common.{◌+◌, ◌-◌, sym, refl, ◌∙◌, ⊎_elim, arith}
+use Rattle.std.proofs.Common.{◌+◌, sym, refl, ◌∙◌, arith}
 use Rattle.index.proofs.Notes.{not_said, is_said, passed_by}
 use Rattle.index.proofs.Passes.{scattered_none, scattered_open, scattered_close, put_room, scattered_more, scattered_skip, scattered_all}
 use Rattle.index.proofs.put_all.Goals as goal
@@ -51,10 +51,11 @@ pub loop-r-preserved : goal.loop-r-preserved
 loop-r-preserved c =
     λ w pre t.
     elim c.if-meets.branch [
-      then-meets v ↦ rw v.words-is (scattered_more c.args.k c.args.floats.now c.args.x c.args.total c.args.n w pre c.starts_w-starts.result c.starts_w-starts.ensures c.wide-refs.result c.wide-refs.ensures c.loop-r.words c.loop-lo.lo (c.loop-lo.lo + 512) c.loop-r.r c.loop-r-test.true (c.loop-r.invariant w pre t) c.nearest_w-order.result c.nearest_w-order.ensures c.notes_w-notes.result c.notes_w-notes.ensures v.if-p-eq-UNSAID.s
-    (elim v.if-p-eq-UNSAID.branch [ then-p-eq-UNSAID u ↦ not_said _ _ u.if-p-eq-UNSAID.true (u.s-is ∙ u.edge_spans-s.ensures) | else-p-eq-UNSAID u ↦ is_said _ _ u.if-p-eq-UNSAID.false (u.s-is ∙ u.said-s.ensures) ]) v.cut_both.result v.cut_both.ensures v.put_edge.new.w v.put_edge.auto.w v.put_edge.ensures)
-    | else-meets v ↦ rw v.words-is (scattered_skip c.args.k c.args.floats.now c.args.x c.args.total c.args.n w pre c.starts_w-starts.result c.starts_w-starts.ensures c.wide-refs.result c.wide-refs.ensures c.loop-r.words c.loop-lo.lo (c.loop-lo.lo + 512) c.loop-r.r c.loop-r-test.true (c.loop-r.invariant w pre t) c.nearest_w-order.result c.nearest_w-order.ensures c.notes_w-notes.result c.notes_w-notes.ensures _ refl _ refl
-    (passed_by _ c.loop-lo.lo (c.loop-lo.lo + 512) _ (omega (arith, c.requires.few, c.wide-count.ensures)) (omega arith) (sym c.meets.ensures ∙ v.if-meets.false))) ]
+      | then-meets v ↦ rw v.words-is (scattered_more c.args.k c.args.floats.now c.args.x c.args.total c.args.n w pre c.starts_w-starts.result c.starts_w-starts.ensures c.wide-refs.result c.wide-refs.ensures c.loop-r.words c.loop-lo.lo (c.loop-lo.lo + 512) c.loop-r.r c.loop-r-test.true (c.loop-r.invariant w pre t) c.nearest_w-order.result c.nearest_w-order.ensures c.notes_w-notes.result c.notes_w-notes.ensures v.if-p-eq-UNSAID.s
+          (elim v.if-p-eq-UNSAID.branch [ then-p-eq-UNSAID u ↦ not_said _ _ u.if-p-eq-UNSAID.true (u.s-is ∙ u.edge_spans-s.ensures) | else-p-eq-UNSAID u ↦ is_said _ _ u.if-p-eq-UNSAID.false (u.s-is ∙ u.said-s.ensures) ]) v.cut_both.result v.cut_both.ensures v.put_edge.new.w v.put_edge.auto.w v.put_edge.ensures)
+      | else-meets v ↦ rw v.words-is (scattered_skip c.args.k c.args.floats.now c.args.x c.args.total c.args.n w pre c.starts_w-starts.result c.starts_w-starts.ensures c.wide-refs.result c.wide-refs.ensures c.loop-r.words c.loop-lo.lo (c.loop-lo.lo + 512) c.loop-r.r c.loop-r-test.true (c.loop-r.invariant w pre t) c.nearest_w-order.result c.nearest_w-order.ensures c.notes_w-notes.result c.notes_w-notes.ensures _ refl _ refl
+          (passed_by _ c.loop-lo.lo (c.loop-lo.lo + 512) _ (omega (arith, c.requires.few, c.wide-count.ensures)) (omega arith) (sym c.meets.ensures ∙ v.if-meets.false)))
+    ]
 
 pub loop-lo-preserved : goal.loop-lo-preserved
 loop-lo-preserved c = scattered_close c.args.k c.args.floats.now c.args.x c.args.total c.args.n c.args.words.now c.requires c.starts_w-starts.result c.starts_w-starts.ensures c.wide-refs.result c.wide-refs.ensures c.loop-r.words _ _ c.loop-r.r (omega arith) (omega arith) (c.loop-r.invariant c.args.words.now c.requires c.loop-lo.invariant)

@@ -1,5 +1,5 @@
 -- `sum_marks`: the places up to b are done. Assumes nothing.
-use Rattle.std.proofs.Common.{◌-◌, arith}
+use Rattle.std.proofs.Common.{arith}
 use Rattle.index.proofs.Marks.{summing_none, sum_small, summing_more}
 use Rattle.index.proofs.sum_marks.Goals as goal
 

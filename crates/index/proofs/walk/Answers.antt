@@ -1,5 +1,5 @@
 -- `walk`: what is left of the part gives what the whole gives, and so many more are tested. Assumes nothing.
-use Rattle.std.proofs.Common.{◌-◌, map, length, sym, refl, ◌∙◌, arith}
+use Rattle.std.proofs.Common.{map, length, sym, refl, ◌∙◌, arith}
 use Rattle.lists.specs.Parts.{part}
 use Rattle.room.specs.Records.{edge_at}
 use Rattle.index.specs.Casting.{none_yet, tested_of}

@@ -1,6 +1,6 @@
 -- `print_visible`: each line in turn; what is left of the lines, printed, ends as all of them. Assumes nothing.
 use mathlib.Core.Path.{refl, ◌∙◌}
-use Prim.Native.Nat.{◌+◌, ◌-◌}
+use Prim.Native.Nat.{◌+◌}
 use lib.ListN.{drop}
 use Rattle.wkt_print.proofs.Printing.{left_start, left_more, left_done, left_place}
 use Rattle.planner.specs.Answer.{lines_of}

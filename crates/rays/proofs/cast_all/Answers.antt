@@ -1,5 +1,4 @@
 -- `cast_all`: the samples before i have their answers. Assumes nothing.
-use Prim.Native.Nat.{◌-◌}
 use Rattle.rays.proofs.Answers.{answered_none, answer_place, answered_more, answered_all}
 use native.Mathlib.Omega.{arith}
 use Rattle.rays.proofs.cast_all.Goals as goal

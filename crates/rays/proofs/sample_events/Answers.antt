@@ -1,5 +1,4 @@
 -- `sample_events`: the samples of the events before i. Assumes nothing.
-use Prim.Native.Nat.{◌-◌}
 use Rattle.rays.proofs.Emitting.{before_none, before_room, before_more, before_all}
 use native.Mathlib.Omega.{arith}
 use Rattle.rays.proofs.sample_events.Goals as goal

@@ -1,5 +1,5 @@
 -- `arc`: the points from i on are left.
-use Rattle.std.proofs.Common.{◌-◌, arith}
+use Rattle.std.proofs.Common.{arith}
 use Rattle.sweep.proofs.Ways.{arc_none, arc_more, arc_end}
 use Rattle.sweep.proofs.arc.Goals as goal
 

@@ -1,5 +1,5 @@
 -- `walk`: the samples from i on are left to walk.
-use Rattle.std.proofs.Common.{◌-◌, arith}
+use Rattle.std.proofs.Common.{arith}
 use Rattle.sweep.proofs.Walking.{walk_none, walk_ready, walk_noted, walk_more, walk_end, walk_swept}
 use Rattle.sweep.proofs.walk.Goals as goal
 
