@@ -1,5 +1,5 @@
 -- |x| < k, by way of the sign of x: for a minus zero x itself serves. Assumes nothing.
-use Rattle.std.proofs.Common.{◌≡◌, ℕ, zero, suc, ◌+◌, ◌*◌, ◌<◌, ◌≤◌, true, false, ltb, ℤ, refl, true≢false, zero-lt-suc, mul-pos, zero-add, zero-mul, arith, ltb→lt, nltb→le, le-ltb}
+use Rattle.std.proofs.Common.{◌≡◌, ℕ, zero, suc, ◌+◌, ◌*◌, ◌<◌, ◌≤◌, true, false, ℤ, refl, true≢false, zero-lt-suc, mul-pos, zero-add, zero-mul, arith, ltb→lt, nltb→le, le-ltb}
 use mathlib.Core.Bool.{false≢true}
 use lib.Ieee.{Float, nan, inf, fin, up, down, neg, lt, of_bits}
 use lib.Ieee.Fits.{up_pos}

@@ -1,5 +1,5 @@
 -- Facts on floats that several leaves share: a test that is true or false, a rounded number's sign, and floats that are whole numbers. Assumes nothing.
-use Rattle.std.proofs.Common.{◌≡◌, ℕ, zero, suc, ◌+◌, ◌-◌, ◌*◌, ◌%◌, ◌^◌, ◌<◌, ◌≤◌, Bool, true, false, cond, not, ◌&&◌, T, eqb, ltb, leb, ℤ, pos, negsuc, sym, refl, ap, ◌∙◌, subst, le_trans, le_of_eq, lt_of_lt_of_le, lt_of_le_of_lt, zero-lt-suc, mul_assoc, mul_comm, mul-lt-mul_of_pos_right, mul-pos, zero-mul, mul-one, arith, lit<, ltb→lt, pow_pos, pow-add}
+use Rattle.std.proofs.Common.{◌≡◌, ℕ, zero, suc, ◌+◌, ◌*◌, ◌%◌, ◌^◌, ◌<◌, ◌≤◌, Bool, true, false, cond, not, ◌&&◌, T, eqb, ltb, leb, ℤ, pos, negsuc, sym, refl, ap, ◌∙◌, subst, le_trans, le_of_eq, lt_of_lt_of_le, lt_of_le_of_lt, zero-lt-suc, mul_assoc, mul_comm, mul-lt-mul_of_pos_right, mul-pos, zero-mul, mul-one, arith, lit<, ltb→lt, pow_pos, pow-add}
 use native.Mathlib.Nat.{pow-succ'}
 use lib.Ieee.{inf, fin, Format, binary64, prec, emax, low, up, down, odd, units, round, neg, fits}
 use lib.Ieee.Fits.{round_is, round-fits, and_l, and_r, down_pos}

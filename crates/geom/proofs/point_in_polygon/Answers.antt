@@ -1,7 +1,7 @@
 -- `geom::point_in_polygon` meets its contract. Assumes nothing.
 use Rattle.geom.specs.Ring.{inside_up_to, point_in_polygon_of}
 use mathlib.Core.Bool.{xor}
-use Rattle.std.proofs.Common.{◌-◌, refl, ap, ◌∙◌, le_antisymm, add-one, arith, le-ltb, lt-ltb}
+use Rattle.std.proofs.Common.{refl, ap, ◌∙◌, le_antisymm, add-one, arith, le-ltb, lt-ltb}
 use Rattle.geom.proofs.point_in_polygon.Goals as goal
 
 pub returns-then-n-lt3 : goal.returns-then-n-lt3

@@ -3,7 +3,7 @@ use Rattle.geom.specs.Ring.{area_up_to, signed_area_of}
 use Rattle.geom.specs.Constants.{half}
 use Rattle.num.specs.Ops.{◌⊗◌}
 use lib.Ieee.{Float}
-use Rattle.std.proofs.Common.{◌-◌, refl, ap, ◌∙◌, mod-lt, le_antisymm, add-one, arith}
+use Rattle.std.proofs.Common.{refl, ap, ◌∙◌, mod-lt, le_antisymm, add-one, arith}
 use Rattle.geom.proofs.signed_area.Goals as goal
 
 pub loop-i-init : goal.loop-i-init

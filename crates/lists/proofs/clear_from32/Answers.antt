@@ -1,6 +1,5 @@
 -- `lists::clear_from32` meets its contract. The invariant, its turns and its end are laws over the zero.
 -- Assumes nothing.
-use Prim.Native.Nat.{◌-◌}
 use native.Mathlib.Omega.{arith}
 use Rattle.lists.proofs.Zeros.{clear_none, clear_more, clear_all}
 use Rattle.lists.proofs.clear_from32.Goals as goal

@@ -1,6 +1,5 @@
 -- `lists::clear_from64` meets its contract. The invariant, its turns and its end are laws over the zero.
 -- Assumes nothing.
-use Prim.Native.Nat.{◌-◌}
 use native.Mathlib.Omega.{arith}
 use Rattle.num.specs.Ops.{zero_f}
 use Rattle.lists.proofs.Zeros.{clear_none, clear_more, clear_all}

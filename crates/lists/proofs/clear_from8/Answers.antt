@@ -1,5 +1,5 @@
 -- `lists::clear_from8` meets its contract, as `clear_from32`. Assumes nothing.
-use Prim.Native.Nat.{ℕ, ◌-◌}
+use Prim.Native.Nat.{ℕ}
 use Rattle.lists.proofs.Zeros.{clear_none, clear_more, clear_all}
 use native.Mathlib.Omega.{arith}
 use Rattle.lists.proofs.clear_from8.Goals as goal

@@ -1,6 +1,6 @@
 -- `geom::Aabb::from_points` meets its contract. Assumes nothing.
 use Rattle.geom.specs.Box.{box_up_to, from_points_of}
-use Rattle.std.proofs.Common.{◌-◌, ap, ◌∙◌, le_antisymm, add-one, arith}
+use Rattle.std.proofs.Common.{ap, ◌∙◌, le_antisymm, add-one, arith}
 use Rattle.geom.proofs.Aabb.from_points.Goals as goal
 
 pub loop-i-init : goal.loop-i-init
