@@ -1,8 +1,8 @@
 -- THE CELL OF A POINT: the range of the box from p to p is nothing where p is off the grid, and else begins in the cell that its column and row give.
 -- Assumes nothing.
-use mathlib.Core.Path.{◌≡◌, refl, sym, ap, ◌∙◌}
+use mathlib.Core.Path.{◌≡◌, refl, sym}
 use mathlib.Core.Bool.{Bool, true, false, cond, not, ◌&&◌, ◌||◌}
-use Prim.Native.Nat.{ℕ, suc, ◌+◌, ◌-◌, ◌^◌, ◌<◌}
+use Prim.Native.Nat.{◌+◌, ◌-◌, ◌^◌, ◌<◌}
 use native.Mathlib.Omega.{arith}
 use lib.Ieee.{Float, lt, le}
 use Rattle.num.specs.Ops.{◌⊖◌, ◌⊗◌, zero_f}
@@ -11,7 +11,6 @@ use Rattle.geom.specs.declared.Vec2.{Vec2}
 use Rattle.geom.specs.Box.{box, is_empty_of}
 use Rattle.grid.specs.declared.CellRange.{CellRange}
 use Rattle.grid.specs.declared.Grid.{Grid}
-use Rattle.grid.specs.declared.Range.{Range}
 use Rattle.grid.specs.declared.Range.TheVariants.{Cells, Nothing}
 use Rattle.grid.specs.Range.{count_f, cell_at, cell_index, range_by, range_of, is_off}
 use Rattle.grid.proofs.Direct.{floor_below, floor_above, last_same}

@@ -25,7 +25,7 @@ use Rattle.grid.specs.Query as query
 use Rattle.grid.proofs.Rows.{row_in}
 use Rattle.grid.proofs.BoxQuery.{fair_query, no_range}
 use Rattle.tables.specs.declared.Built.TheVariants.{Items}
-use Rattle.tables.specs.Tables.{span_of, Limits, Buildable, cell_items, items_of, Share, held_in, Outcome, outcome, Does}
+use Rattle.tables.specs.Tables.{span_of, Limits, Buildable, cell_items, items_of, Share, held_in, outcome, Does}
 use Rattle.tables.proofs.Cells.{range_of_lem}
 use Rattle.tables.proofs.Whole.{fitted}
 use Rattle.tables.proofs.BuiltTables.{covers_inside, inside_covers, item_in, in_item, starts, items, built_sound, built_named, built_cell}
