@@ -2,7 +2,7 @@
 -- entry of a cell that the box covers, and the entries read are those that these cells hold (`Fair` of `grid`). Refused or not, the stamps stay fresh, so that the
 -- next query is answered alike. Assumes nothing.
 use Prim.Native.Nat.{ℕ, ◌*◌, ◌≤◌}
-use mathlib.Core.Path.{◌≡◌, refl}
+use mathlib.Core.Path.{◌≡◌}
 use mathlib.Core.Bool.{Bool, true, false, cond}
 use mathlib.Core.List.{List}
 use native.Mathlib.Nat.{mul-le-mul_left, mul-le-mul_right}

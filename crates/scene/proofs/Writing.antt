@@ -1,6 +1,6 @@
 -- The ways through the calls that write: refused, and nothing is written; or what the grid's call leaves. Assumes nothing.
 use Prim.Native.Nat.{ℕ, ◌≤◌, ◌<◌}
-use mathlib.Core.Path.{◌≡◌, refl, ap}
+use mathlib.Core.Path.{◌≡◌, refl}
 use mathlib.Core.Bool.{true}
 use mathlib.Core.List.{List}
 use lib.ListN.{length, replicate}
@@ -8,7 +8,7 @@ use borrow.Author.Tests.{lt-ltb, le-ltb}
 use Rattle.geom.specs.declared.Aabb.{Aabb}
 use Rattle.grid.specs.declared.Listing.{Listing}
 use Rattle.grid.specs.declared.Listing.TheVariants as listing
-use Rattle.grid.specs.Query.{Outcome, Is, outcome}
+use Rattle.grid.specs.Query.{Is, outcome}
 use Rattle.site.specs.declared.Site.{Site}
 use Rattle.site.specs.Tables.{Tables}
 use Rattle.site.specs.Domain.{box_in_domain, load_box_of}

@@ -1,6 +1,6 @@
 -- `area_of`: the area of the loaded points grows by one edge a turn. Assumes nothing.
 use mathlib.Core.Path.{refl}
-use Prim.Native.Nat.{◌+◌, ◌-◌}
+use Prim.Native.Nat.{◌+◌}
 use native.Mathlib.Nat.{mod-lt}
 use native.Mathlib.Omega.{arith}
 use Rattle.geom.specs.Ring.{area_up_to}

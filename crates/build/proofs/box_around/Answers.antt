@@ -1,5 +1,4 @@
 -- `box_around`: the box grows by one point a turn. Assumes nothing.
-use Prim.Native.Nat.{◌-◌}
 use native.Mathlib.Numerals.{add-one}
 use native.Mathlib.Omega.{arith}
 use Rattle.geom.specs.Box.{box_up_to}

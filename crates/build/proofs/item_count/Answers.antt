@@ -1,6 +1,5 @@
 -- `item_count`: what is counted and what is left are together the cells of all boxes. Assumes nothing.
 use mathlib.Core.Path.{refl, ◌∙◌}
-use Prim.Native.Nat.{◌-◌}
 use native.Mathlib.Numerals.{add-one}
 use native.Mathlib.Omega.{arith}
 use Rattle.build.proofs.Spans.{count_none, count_more, count_all}

@@ -1,7 +1,7 @@
 -- `write_boxes`: four numbers a turn, and zeros after the last. Assumes nothing.
 use mathlib.Core.List.{List}
 use mathlib.Core.Path.{◌≡◌, refl, ap, ◌∙◌}
-use Prim.Native.Nat.{ℕ, ◌-◌, ◌*◌}
+use Prim.Native.Nat.{ℕ, ◌*◌}
 use native.Mathlib.Omega.{arith}
 use lib.Ieee.{Float}
 use lib.Seq.{sets}

@@ -1,6 +1,6 @@
 -- `write_ordered`: one point a turn, at the place of the polygon. Assumes nothing.
 use mathlib.Core.Path.{◌≡◌, refl, ap, ◌∙◌}
-use Prim.Native.Nat.{◌+◌, ◌-◌, ◌*◌}
+use Prim.Native.Nat.{◌+◌, ◌*◌}
 use native.Mathlib.Omega.{arith}
 use lib.Seq.{take_all, sets}
 use lib.Ieee.{nan}

@@ -4,7 +4,7 @@ use Rattle.extent.specs.Extent.{bounds_of}
 use Rattle.extent.specs.Boxes.{boxes_of}
 use Rattle.grid.specs.Boxes.{box_at}
 use Rattle.lists.specs.Lists.{listed}
-use Rattle.std.proofs.Common.{ℕ, ◌-◌, ap, ◌∙◌, le_antisymm, arith}
+use Rattle.std.proofs.Common.{ℕ, ap, ◌∙◌, le_antisymm, arith}
 use Rattle.extent.proofs.bounds_of.Goals as goal
 
 pub loop-i-init : goal.loop-i-init

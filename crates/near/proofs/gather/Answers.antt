@@ -1,5 +1,4 @@
 -- `near::gather` meets its contract. Assumes nothing.
-use Prim.Native.Nat.{◌-◌}
 use mathlib.Core.Path.{refl, ◌∙◌}
 use Rattle.near.proofs.Gathering.{one_long, gather_none, gather_done}
 use Rattle.near.proofs.Ways.{small_at, gather_step}

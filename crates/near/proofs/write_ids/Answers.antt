@@ -1,6 +1,5 @@
 -- `near::write_ids` meets its contract. Assumes nothing.
 use lib.ListN.{length-set}
-use Prim.Native.Nat.{◌-◌}
 use mathlib.Core.Path.{refl}
 use Rattle.near.proofs.Answering.{write_next}
 use Rattle.near.proofs.Ways.{write_none, write_done}

@@ -2,7 +2,6 @@
 use Rattle.sight.specs.Holding.{higher_of, highest}
 use Rattle.lists.proofs.Folds.{filtered_next, filtered_end}
 use mathlib.Core.Path.{refl, sym, ◌∙◌}
-use Prim.Native.Nat.{◌-◌}
 use native.Mathlib.Omega.{arith}
 use Rattle.sight.proofs.highest_of.Goals as goal
 

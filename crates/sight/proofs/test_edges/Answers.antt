@@ -3,7 +3,6 @@ use Rattle.sight.specs.Casting.{edges_up_to, edges_met}
 use native.Mathlib.Numerals.{add-one}
 use native.Mathlib.Nat.{le_antisymm}
 use mathlib.Core.Path.{refl, ap, ◌∙◌}
-use Prim.Native.Nat.{◌-◌}
 use Rattle.sight.proofs.Ways.{no_edges, next_edge}
 use native.Mathlib.Omega.{arith}
 use Rattle.sight.proofs.test_edges.Goals as goal

@@ -2,7 +2,6 @@
 use Rattle.sight.specs.Casting.{item_seen, items_seen}
 use Rattle.lists.proofs.Folds.{fold_next, fold_end}
 use mathlib.Core.Path.{refl, sym, ◌∙◌}
-use Prim.Native.Nat.{◌-◌}
 use native.Mathlib.Omega.{arith}
 use Rattle.sight.proofs.test_items.Goals as goal
 

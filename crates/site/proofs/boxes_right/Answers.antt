@@ -4,7 +4,6 @@ use native.Mathlib.Nat.{le_antisymm}
 use native.Mathlib.Numerals.{add-one}
 use Rattle.site.specs.Soundness.{box_right, boxes_right}
 use Rattle.lists.specs.Members.{all_to}
-use Prim.Native.Nat.{◌-◌}
 use native.Mathlib.Omega.{arith}
 use Rattle.site.proofs.boxes_right.Goals as goal
 
