@@ -19,7 +19,7 @@ use Rattle.room.proofs.Kept.{merged_kept}
 use Rattle.sorts.specs.Sort.{sort}
 use Rattle.sorts.specs.Fronts.{Ordered}
 use Rattle.sorts.proofs.Merging.{length_sort}
-use Rattle.events.specs.Spots.{Spot, closed}
+use Rattle.events.specs.Spots.{Spot}
 use Rattle.events.specs.Held.{end_at, spot_at, Closing, Closed}
 use Rattle.events.specs.declared.Open.{Open}
 use Rattle.events.proofs.Reading.{end_kept, spot_kept}

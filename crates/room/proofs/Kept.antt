@@ -1,6 +1,6 @@
 -- What stands in the room stays where its stretches stay. A stretch stays where another one is all that was written (`only_part` of the crate
 -- `lists`). Assumes nothing.
-use mathlib.Core.Path.{◌≡◌, refl, ap}
+use mathlib.Core.Path.{◌≡◌, ap}
 use mathlib.Core.Bool.{false}
 use mathlib.Core.List.{List}
 use Prim.Native.Nat.{ℕ, ◌+◌, ◌*◌, ◌≤◌, ◌<◌}

@@ -1,6 +1,6 @@
 -- `cone::put_arc` meets its contract: so far as many points are written as turns were made. Assumes nothing.
 use mathlib.Core.Path.{refl, ap, ◌∙◌}
-use Prim.Native.Nat.{ℕ, ◌-◌, ◌*◌}
+use Prim.Native.Nat.{ℕ, ◌*◌}
 use native.Mathlib.Nat.{le_antisymm}
 use lib.ListN.{length}
 use lib.Seq.{sets, length-sets}

@@ -1,5 +1,4 @@
 -- `gather`: what is closed, and what the open event and the rest come to, are all the merged events. Assumes nothing.
-use Prim.Native.Nat.{◌-◌}
 use native.Mathlib.Omega.{arith}
 use Rattle.events.proofs.Loop.{loop_first, loop_full, loop_aside, loop_join, can_close, loop_next, loop_end}
 use Rattle.events.proofs.gather.Goals as goal

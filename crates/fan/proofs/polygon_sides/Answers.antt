@@ -3,7 +3,6 @@ use Rattle.fan.specs.Fan.{sides_fan}
 use Rattle.fan.proofs.Adding.{added_none, added_both}
 use Rattle.fan.proofs.Counts.{grows_sides, fit_after, below_after}
 use mathlib.Core.Path.{◌≡◌}
-use Prim.Native.Nat.{◌-◌}
 use native.Mathlib.Nat.{le_antisymm}
 use native.Mathlib.Numerals.{add-one}
 use native.Mathlib.Omega.{arith}

@@ -2,7 +2,6 @@
 use Rattle.fan.proofs.Scanning.{run_none, run_more, id_there, id_inside}
 use Rattle.fan.proofs.Counts.{met_below, fit_after}
 use mathlib.Core.Path.{◌≡◌}
-use Prim.Native.Nat.{◌-◌}
 use native.Mathlib.Nat.{le_antisymm}
 use native.Mathlib.Omega.{arith}
 use Rattle.fan.proofs.scan.Goals as goal
