@@ -8,6 +8,7 @@ mod RootBits
 pub mod SqrtLaws
 mod RemLaws
 pub mod NearLaws
+pub mod RemBits
 mod BitLaws
 pub mod Ranks
 pub mod FloorExact

@@ -15,10 +15,13 @@ use Rattle.num.proofs.RemLaws.{places}
 use Rattle.num.proofs.SqrtLaws.{Read, read_at, root_by}
 
 -- ---- floats in units
-pub units_are : (s : Bool) (n : ℕ) (d : ℤ) → T (fits binary64 (fin s n d)) → (k : ℕ) × (in_units (fin s n d) ≡ n * 2 ^ k)
-units_are s n d t =
+pub units_at : (s : Bool) (n : ℕ) (d : ℤ) (t : T (fits binary64 (fin s n d))) → in_units (fin s n d) ≡ n * 2 ^ (places s n d t).0
+units_at s n d t =
     let p = places s n d t in
-    (p.0, ap (λ (x : ℕ). x / down d) (mul_assoc n (up d) (2 ^ 1074) ∙ ap (λ (x : ℕ). n * x) p.1 ∙ sym (mul_assoc n (2 ^ p.0) (down d))) ∙ mul-div_cancel (n * 2 ^ p.0) (down_pos d))
+    ap (λ (x : ℕ). x / down d) (mul_assoc n (up d) (2 ^ 1074) ∙ ap (λ (x : ℕ). n * x) p.1 ∙ sym (mul_assoc n (2 ^ p.0) (down d))) ∙ mul-div_cancel (n * 2 ^ p.0) (down_pos d)
+
+pub units_are : (s : Bool) (n : ℕ) (d : ℤ) → T (fits binary64 (fin s n d)) → (k : ℕ) × (in_units (fin s n d) ≡ n * 2 ^ k)
+units_are s n d t = ((places s n d t).0, units_at s n d t)
 
 pub units_of_value : (v : Float) (s : Bool) (a : ℕ) → HasValue v s a (2 ^ 1074) → in_units v ≡ a
 units_of_value lib.Ieee.nan s a h = elim h [ ]

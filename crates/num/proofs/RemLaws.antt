@@ -62,16 +62,23 @@ shape m n a b M N p = go (leb b a) (leb→le b a) (nleb→lt b a)
       ap (λ (x : ℕ). m * 2 ^ a % x) (split n b a (le_of_lt (k tt))) ∙ mod_scale m (n * 2 ^ (b - a)) (2 ^ a) (mul-pos p (pow_pos (b - a))) (pow_pos a),
     )
 
-pub rem_exact : (s t : Bool) (m : ℕ) (e : ℤ) (n : ℕ) (d : ℤ) → T (fits binary64 (fin s m e)) → T (fits binary64 (fin t n d)) → 0 < n
-    → HasValue (round binary64 s (m * up e * down d % (n * up d * down e)) (down e * down d)) s (m * up e * down d % (n * up d * down e)) (down e * down d)
-rem_exact s t m e n d fx fy p =
+-- A float below the top is below 2 ^ 2098 of the smallest ones.
+pub under_all : (s : Bool) (m : ℕ) (e : ℤ) (t : T (fits binary64 (fin s m e))) → m * 2 ^ (places s m e t).0 < 2 ^ 2098
+under_all s m e t =
+    let x = places s m e t in
+    lt_of_mul-lt-mul_right (down e) (lt_of_le_of_lt (le_of_eq (mul_assoc m (2 ^ x.0) (down e) ∙ ap (λ (z : ℕ). m * z) (sym x.1) ∙ sym (mul_assoc m (up e) (2 ^ 1074))))
+    (lt_of_lt_of_le (mul-lt-mul_of_pos_right (under_top s m e t) (pow_pos 1074)) (le_of_eq (mul_right_comm (2 ^ 1024) (down e) (2 ^ 1074)))))
+
+-- The remainder over the common denominator is the remainder in units.
+pub rem_scaled : (s t : Bool) (m : ℕ) (e : ℤ) (n : ℕ) (d : ℤ) (fx : T (fits binary64 (fin s m e))) (fy : T (fits binary64 (fin t n d))) → 0 < n
+    → m * up e * down d % (n * up d * down e) * 2 ^ 1074 ≡ m * 2 ^ (places s m e fx).0 % (n * 2 ^ (places t n d fy).0) * (down e * down d)
+rem_scaled s t m e n d fx fy p =
     let C = down e * down d in
     let A = m * up e * down d in
     let B = n * up d * down e in
     let L = 2 ^ 1074 in
     let x = places s m e fx in
     let y = places t n d fy in
-    let w = shape m n x.0 y.0 (small s m e fx) (small t n d fy) p in
     let X = m * 2 ^ x.0 in
     let Y = n * 2 ^ y.0 in
     let ax : A * L ≡ X * C = unit m (up e) (down e) (down d) (2 ^ x.0) L x.1 in
@@ -79,13 +86,22 @@ rem_exact s t m e n d fx fy p =
     let Cp : 0 < C = mul-pos (down_pos e) (down_pos d) in
     let Yp : 0 < Y = mul-pos p (pow_pos y.0) in
     let Bp : 0 < B = mul-pos (mul-pos p (up_pos d)) (down_pos e) in
-    let r : A % B * L ≡ X % Y * C = sym (mod_scale A B L Bp (pow_pos 1074)) ∙ ap (λ (z : ℕ). z % (B * L)) ax ∙ ap (λ (z : ℕ). X * C % z) by ∙ mod_scale X Y C Yp Cp in
-    let top : X < 2 ^ 2098 = lt_of_mul-lt-mul_right (down e) (lt_of_le_of_lt (le_of_eq (mul_assoc m (2 ^ x.0) (down e) ∙ ap (λ (z : ℕ). m * z) (sym x.1) ∙ sym (mul_assoc m (up e) L)))
-    (lt_of_lt_of_le (mul-lt-mul_of_pos_right (under_top s m e fx) (pow_pos 1074)) (le_of_eq (mul_right_comm (2 ^ 1024) (down e) L)))) in
-    round_exact binary64 s (A % B) C w.0 w.1 Cp w.2 (lt_of_le_of_lt (le_trans (le_of_eq (sym w.3)) (mod-le X Y)) top) (r ∙ ap (λ (z : ℕ). z * C) w.3)
+    sym (mod_scale A B L Bp (pow_pos 1074)) ∙ ap (λ (z : ℕ). z % (B * L)) ax ∙ ap (λ (z : ℕ). X * C % z) by ∙ mod_scale X Y C Yp Cp
   where
     unit : (m u de dd k L : ℕ) → u * L ≡ k * de → m * u * dd * L ≡ m * k * (de * dd)
     unit m u de dd k L h = mul_right_comm (m * u) dd L ∙ ap (λ (z : ℕ). z * dd) (mul_assoc m u L ∙ ap (λ (z : ℕ). m * z) h ∙ sym (mul_assoc m k de)) ∙ mul_assoc (m * k) de dd
+
+pub rem_exact : (s t : Bool) (m : ℕ) (e : ℤ) (n : ℕ) (d : ℤ) → T (fits binary64 (fin s m e)) → T (fits binary64 (fin t n d)) → 0 < n
+    → HasValue (round binary64 s (m * up e * down d % (n * up d * down e)) (down e * down d)) s (m * up e * down d % (n * up d * down e)) (down e * down d)
+rem_exact s t m e n d fx fy p =
+    let C = down e * down d in
+    let A = m * up e * down d in
+    let B = n * up d * down e in
+    let x = places s m e fx in
+    let y = places t n d fy in
+    let w = shape m n x.0 y.0 (small s m e fx) (small t n d fy) p in
+    round_exact binary64 s (A % B) C w.0 w.1 (mul-pos (down_pos e) (down_pos d)) w.2 (lt_of_le_of_lt (le_trans (le_of_eq (sym w.3)) (mod-le (m * 2 ^ x.0) (n * 2 ^ y.0))) (under_all s m e fx))
+    (rem_scaled s t m e n d fx fy p ∙ ap (λ (z : ℕ). z * C) w.3)
 
 -- ---- the sum of a negative exact value and a larger positive one
 neg_add : (x : Float) (r C : ℕ) (n : ℕ) (d : ℤ) (b : ℕ) → 0 < C → HasValue x true r C → n * up d * C ≡ b * down d → r < b
@@ -139,11 +155,11 @@ cond_is : (b : Bool) (x y : Float) → T b → cond b x y ≡ x
 cond_is true x y t = refl
 cond_is false x y t = absurd t
 
-cond_not : (b : Bool) (x y : Float) → T (not b) → cond b x y ≡ y
+pub cond_not : (b : Bool) (x y : Float) → T (not b) → cond b x y ≡ y
 cond_not true x y t = absurd t
 cond_not false x y t = refl
 
-not_zero : (r : ℕ) → 0 < r → T (not (eqb r 0))
+pub not_zero : (r : ℕ) → 0 < r → T (not (eqb r 0))
 not_zero r h = not_T (eqb r 0) (λ t. no r h (eqb→eq r 0 t))
   where
     no : (r : ℕ) → 0 < r → r ≡ 0 → ⊥

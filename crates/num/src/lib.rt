@@ -1,12 +1,12 @@
 // The numbers under everything else: what Rust's library does with an `f64` and Rattle's does not. Every public function takes every float, NaN and
-// infinities too, and its promise says the one answer; the three private ones that make up the root ask for a range of their caller.
+// infinities too, and its promise says the one answer; the private ones that make up the root and the remainder ask for a range of their caller.
 // Meanings: specs/Num.antt (floor to remainder), specs/Order.antt (total order), specs/Root.antt (square root).
 // IEEE 754-2019 decides floor, ceiling, total order and root; the pages of Rust's library decide the rest.
 #![tactic(auto)]
 
-ghost use Rattle.std.specs.Prelude.{◌≡◌, ◌*◌, ◌^◌, ◌<◌, ◌≤◌, from_bits, is_nan, to_bits};
+ghost use Rattle.std.specs.Prelude.{◌≡◌, ◌*◌, ◌/◌, ◌%◌, ◌-◌, ◌^◌, ◌<◌, ◌≤◌, false, from_bits, is_nan, to_bits};
 ghost use Rattle.std.specs.Float.{binary64};
-ghost use Rattle.std.specs.Float.Ieee.{to_unsigned, to_signed};
+ghost use Rattle.std.specs.Float.Ieee.{rem, round, to_unsigned, to_signed};
 ghost use Rattle.num.specs.Num.{floor_of, ceil_of, abs_of, min_of, max_of, clamp_of, rem_euclid_of};
 ghost use Rattle.num.specs.Order.{is_minus_zero, order_of};
 ghost use Rattle.num.specs.Root.{RootOf, root_at, sqrt_of};
@@ -179,17 +179,6 @@ pub fn to_i64(x: f64) -> i64
     -9223372036854775808
 }
 
-// `f64::rem_euclid`: the least remainder that is not negative. It can round up to |y| itself.
-pub fn rem_euclid(x: f64, y: f64) -> f64
-    ensures { result ≡ rem_euclid_of x y }
-{
-    let r = x % y;
-    if r < 0.0 {
-        return r + abs(y);
-    }
-    r
-}
-
 // `f64::to_bits`. Every NaN has the one pattern 0x7ff8_0000_0000_0000.
 pub fn to_bits(x: f64) -> u64
     ensures { result ≡ to_bits binary64 x }
@@ -208,6 +197,92 @@ pub fn from_bits(b: u64) -> f64
         return 0.0 / 0.0;
     }
     f64::from_bits(b)
+}
+
+// The exponent in the bit pattern of a float that is not negative: the float is (b - 2^52 * exponent) * 2^exponent of the smallest ones.
+fn exponent(b: u64) -> u64
+    ensures { result ≡ b / 2 ^ 52 - 1 }
+{
+    if b < 4503599627370496 {
+        return 0;
+    }
+    b / 4503599627370496 - 1
+}
+
+// The remainder of a * 2^n by d: long division, a binary digit at a time.
+fn long_remainder(a: u64, n: u64, d: u64) -> u64
+    requires { (0 < d) × (d < 9007199254740992) }
+    ensures { result ≡ a * 2 ^ n % d }
+{
+    let mut r = a % d;
+    let mut left = n;
+    while left > 0 {
+        r = 2 * r % d;
+        left -= 1;
+    }
+    r
+}
+
+// The bit pattern of the float that is m * 2^k of the smallest ones.
+fn pattern(m: u64, k: u64) -> u64
+    requires { (m < 9007199254740992) × (k ≤ 2045) }
+    ensures { result ≡ to_bits binary64 (round binary64 false (m * 2 ^ k) (2 ^ 1074)) }
+{
+    let mut z = m;
+    let mut q = k;
+    while q > 0 && z < 4503599627370496 {
+        z *= 2;
+        q -= 1;
+    }
+    q * 4503599627370496 + z
+}
+
+// Rust's `%`: IEEE 754's remainder by a quotient cut toward zero, exact. In whole numbers, so that a program needs no `fmod` of a C library.
+fn rem(x: f64, y: f64) -> f64
+    ensures { result ≡ rem binary64 x y }
+{
+    let b = to_bits(x);
+    let bx = b % 0x8000_0000_0000_0000;
+    let by = to_bits(y) % 0x8000_0000_0000_0000;
+    if bx >= 0x7ff0_0000_0000_0000 {
+        return 0.0 / 0.0;
+    }
+    if by > 0x7ff0_0000_0000_0000 {
+        return 0.0 / 0.0;
+    }
+    if by == 0x7ff0_0000_0000_0000 {
+        return x;
+    }
+    if by == 0 {
+        return 0.0 / 0.0;
+    }
+    let kx = exponent(bx);
+    let ky = exponent(by);
+    // Then y has all 53 digits, and x is smaller.
+    if kx < ky {
+        return x;
+    }
+    let r = long_remainder(
+        bx - kx * 4503599627370496,
+        kx - ky,
+        by - ky * 4503599627370496,
+    );
+    let v = from_bits(pattern(r, ky));
+    if b >= 0x8000_0000_0000_0000 {
+        return -v;
+    }
+    v
+}
+
+// `f64::rem_euclid`: the least remainder that is not negative. It can round up to |y| itself.
+pub fn rem_euclid(x: f64, y: f64) -> f64
+    ensures { result ≡ rem_euclid_of x y }
+{
+    let r = rem(x, y);
+    if r < 0.0 {
+        return r + abs(y);
+    }
+    r
 }
 
 // The root of m, cut to a whole number. The floats only guess it: nothing rests on them.
