@@ -5,6 +5,8 @@
 // `planner::answer` answers, then a line 3 DECIMALS and what `planner::answer_three` does.
 #![tactic(auto)]
 
+ghost use Rattle.std.specs.Prelude.{◌≤◌, length, IfOk};
+
 use std::io;
 use std::io::Read;
 
@@ -73,12 +75,30 @@ fn print_answer(rt: HostRuntime, r: usize, out: &[u8]) -> io::Result<()> {
     Ok(())
 }
 
+// Reads until the part is full or the input ends, and answers how many bytes it has then.
+fn read_full(rt: HostRuntime, part: &mut [u8]) -> io::Result<usize>
+    ensures { IfOk result (λ n. n ≤ length part.new) }
+{
+    let most = part.len();
+    let mut n: usize = 0;
+    let mut left = most;
+    while 0 < left {
+        left -= 1;
+        let got = rt.stdin().read(&mut part[n..most])?;
+        if got == 0 {
+            return Ok(n);
+        }
+        n = lists::least(n + got, most);
+    }
+    Ok(n)
+}
+
 // Reads a text of n bytes and the LF after it, and prints both answers.
 fn print_case(rt: HostRuntime, n: usize, text: &mut [u8], out: &mut [u8]) -> io::Result<()> {
     if n <= text.len() {
-        let got = reading::read_text(&mut rt.stdin(), &mut text[0..n]);
+        let got = read_full(rt, &mut text[0..n])?;
         let mut end = [0u8; 1];
-        reading::read_text(&mut rt.stdin(), &mut end);
+        rt.stdin().read(&mut end)?;
         let r = planner::answer(&text[0..got], &mut *out);
         print_answer(rt, r, &*out)?;
         rt.write_all(b"3 DECIMALS\n")?;

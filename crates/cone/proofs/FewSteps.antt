@@ -13,7 +13,7 @@ use lib.Ieee.{Float, nan, inf, fin, le, div, is_nan, of_bits, to_unsigned}
 use Rattle.num.specs.Ops.{◌⊖◌, ◌⊗◌, ◌⊘◌, zero_f, one_f}
 use Rattle.num.specs.Num.{ceil_of, max_of, clamp_of}
 use Rattle.num.specs.Pages.{clamp_nan}
-use Rattle.angle.specs.Angles.{acos_of, kPi2}
+use Rattle.angle.specs.Angles.{acos_of, k_pi2}
 use Rattle.geom.specs.Constants.{tau, nano, two}
 use Rattle.bounds.specs.Within.{Within, WithinOrNan}
 use Rattle.lists.proofs.Joined.{length_listed}
@@ -75,20 +75,20 @@ share_milli : T (le share milli)
 unfolding le of_bits share
 share_milli = tt
 
-share_quarter : T (le share kPi2)
+share_quarter : T (le share k_pi2)
 unfolding le of_bits share
 share_quarter = tt
 
-milli_quarter : T (le milli kPi2)
+milli_quarter : T (le milli k_pi2)
 unfolding le of_bits
 milli_quarter = tt
 
-held_share : (x : Float) → T (not (is_nan x)) → T (le share (clamp_of x milli kPi2))
-held_share x p = trans share milli (clamp_of x milli kPi2) share_milli (clamp_between x milli kPi2 p milli_quarter).0
+held_share : (x : Float) → T (not (is_nan x)) → T (le share (clamp_of x milli k_pi2))
+held_share x p = trans share milli (clamp_of x milli k_pi2) share_milli (clamp_between x milli k_pi2 p milli_quarter).0
 
-clamped_share : (x : Float) → (clamp_of x milli kPi2 ≡ nan) ⊎ T (le share (clamp_of x milli kPi2))
+clamped_share : (x : Float) → (clamp_of x milli k_pi2 ≡ nan) ⊎ T (le share (clamp_of x milli k_pi2))
 unfolding is_nan
-clamped_share nan = inl (clamp_nan milli kPi2)
+clamped_share nan = inl (clamp_nan milli k_pi2)
 clamped_share (inf s) = inr (held_share (inf s) tt)
 clamped_share (fin s m e) = inr (held_share (fin s m e) tt)
 
@@ -96,7 +96,7 @@ step_share : (r tolerance : Float) → (arc_step_of r tolerance ≡ nan) ⊎ T (
 unfolding arc_step_of
 step_share r tolerance = go (le r (max_of tolerance nano)) (two ⊗ acos_of (one_f ⊖ max_of tolerance nano ⊘ r))
   where
-    go : (b : Bool) (x : Float) → (cond b kPi2 (clamp_of x milli kPi2) ≡ nan) ⊎ T (le share (cond b kPi2 (clamp_of x milli kPi2)))
+    go : (b : Bool) (x : Float) → (cond b k_pi2 (clamp_of x milli k_pi2) ≡ nan) ⊎ T (le share (cond b k_pi2 (clamp_of x milli k_pi2)))
     go true x = inr share_quarter
     go false x = clamped_share x
 

@@ -1,5 +1,5 @@
 -- The view cone: `visibility.rs`, lines 41 to 137 (`ViewCone`), 248 to 251 and 265 (what `compute_visibility` takes from it), and 724 to 732
--- (`arc_step`). `tau`, `nano` and `two` are those of the crate `geom`, `kPi` and `kPi2` (half of pi) those of the crate `angle`.
+-- (`arc_step`). `tau`, `nano` and `two` are those of the crate `geom`, `k_pi` and `k_pi2` (half of pi) those of the crate `angle`.
 -- `min_of`, `max_of` and `clamp_of` are Rust's. Definitions only, and two constants checked.
 use Rattle.std.specs.Prelude.{◌≡◌, refl, Bool, false, cond, List, [], ◌∷◌, ℕ, ◌+◌, max, length, pos, Float}
 use Rattle.std.proofs.lemmas.List.Edits.{sets}
@@ -7,7 +7,7 @@ use Rattle.std.specs.Float.{binary64}
 use Rattle.std.specs.Float.Ieee.{le, of_bits, of_int, round, to_unsigned}
 use Rattle.num.specs.Ops.{◌⊕◌, ◌⊖◌, ◌⊗◌, ◌⊘◌, zero_f, one_f}
 use Rattle.num.specs.Num.{ceil_of, max_of, clamp_of}
-use Rattle.angle.specs.Angles.{acos_of, kPi, kPi2}
+use Rattle.angle.specs.Angles.{acos_of, k_pi, k_pi2}
 use Rattle.lists.specs.Lists.{listed}
 use Rattle.geom.specs.declared.Vec2.{Vec2}
 use Rattle.geom.specs.declared.Aabb.{Aabb}
@@ -49,7 +49,7 @@ unfoldable pub fov_clamped_of : ViewCone → Float
 fov_clamped_of c = clamp_of c.fov zero_f tau
 
 unfoldable pub start_angle_of : ViewCone → Float
-start_angle_of c = cond (is_full_of c) (c.direction ⊖ kPi) (c.direction ⊖ fov_clamped_of c ⊘ two)
+start_angle_of c = cond (is_full_of c) (c.direction ⊖ k_pi) (c.direction ⊖ fov_clamped_of c ⊘ two)
 
 -- the opening angle that is used
 unfoldable pub fov_of : ViewCone → Float
@@ -77,10 +77,10 @@ unfoldable pub sector_box_of : View → Float → Aabb
 sector_box_of v r =
     let corner = box v.o v.o in
     let ends = include_of (include_of corner (rim_of v.o r v.start)) (rim_of v.o r (v.start ⊕ v.fov)) in
-    let first = with_axis ends v r (zero_f ⊗ kPi2) in
-    let second = with_axis first v r (one_f ⊗ kPi2) in
-    let third = with_axis second v r (two ⊗ kPi2) in
-    with_axis third v r (three ⊗ kPi2)
+    let first = with_axis ends v r (zero_f ⊗ k_pi2) in
+    let second = with_axis first v r (one_f ⊗ k_pi2) in
+    let third = with_axis second v r (two ⊗ k_pi2) in
+    with_axis third v r (three ⊗ k_pi2)
 
 unfoldable pub aabb_of : ViewCone → Aabb
 aabb_of c = cond (is_full_of c) (around_of c.origin (reach_of c)) (sector_box_of (view_of c) (reach_of c))
@@ -90,7 +90,7 @@ aabb_of c = cond (is_full_of c) (around_of c.origin (reach_of c)) (sector_box_of
 unfoldable pub arc_step_of : Float → Float → Float
 arc_step_of r tolerance =
     let held = max_of tolerance nano in
-    cond (le r held) kPi2 (clamp_of (two ⊗ acos_of (one_f ⊖ held ⊘ r)) milli kPi2)
+    cond (le r held) k_pi2 (clamp_of (two ⊗ acos_of (one_f ⊖ held ⊘ r)) milli k_pi2)
 
 -- how many steps: 1 at least, also where the quotient is NaN
 unfoldable pub steps_of : ViewCone → Float → ℕ

@@ -1,5 +1,6 @@
--- The theorems of `demand`: DemandThree, RefusedWhen and Freely, and under them Calls, Engines, Facing and Outlines.
+-- The theorems of `demand`: Ends, DemandThree, RefusedWhen and Freely, and under the last three Calls, Engines, Facing and Outlines.
 mod Facing
+pub mod Ends
 pub mod Calls
 pub mod Engines
 pub mod Outlines

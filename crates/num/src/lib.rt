@@ -1,5 +1,5 @@
 // The numbers under everything else: what Rust's library does with an `f64` and Rattle's does not. Every public function takes every float, NaN and
-// infinities too, and its promise says the one answer; the private ones that make up the root and the remainder ask for a range of their caller.
+// infinities too, and its promise says the one answer; of the private ones that make up the root and the remainder some ask for a range of their caller.
 // Meanings: specs/Num.antt (floor to remainder), specs/Order.antt (total order), specs/Root.antt (square root).
 // IEEE 754-2019 decides floor, ceiling, total order and root; the pages of Rust's library decide the rest.
 #![tactic(auto)]

@@ -7,13 +7,13 @@ use Rattle.num.specs.Num.{min_of, max_of}
 use Rattle.geom.specs.declared.Vec2.{Vec2}
 use Rattle.geom.specs.declared.Aabb.{Aabb}
 
--- the ray from o, with inv = 1 / d for each axis, meets the box b at a t from 0 to tMax, or a NaN leaves that open
+-- the ray from o, with inv = 1 / d for each axis, meets the box b at a t from 0 to t_max, or a NaN leaves that open
 unfoldable pub ray_hits_aabb_of : Vec2 → Vec2 → Aabb → Float → Bool
-ray_hits_aabb_of o inv b tMax =
+ray_hits_aabb_of o inv b t_max =
     let tx1 = (b.min.x ⊖ o.x) ⊗ inv.x in
     let tx2 = (b.max.x ⊖ o.x) ⊗ inv.x in
     let ty1 = (b.min.y ⊖ o.y) ⊗ inv.y in
     let ty2 = (b.max.y ⊖ o.y) ⊗ inv.y in
     let near = max_of (min_of tx1 tx2) (min_of ty1 ty2) in
     let far = min_of (max_of tx1 tx2) (max_of ty1 ty2) in
-    not (lt far (max_of near zero_f) || lt tMax near)
+    not (lt far (max_of near zero_f) || lt t_max near)
