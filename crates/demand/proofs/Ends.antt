@@ -14,8 +14,6 @@ use Rattle.visibility.proofs.compute_visibility.Statement as view
 use Rattle.visibility.proofs.compute_visibility.Met as view_met
 use Rattle.cone.proofs.ViewCone.outline.Statement as outline
 use Rattle.cone.proofs.ViewCone.outline.Met as outline_met
-use Rattle.planner.proofs.answer_with.Statement as text
-use Rattle.planner.proofs.answer_with.Met as text_met
 
 pub new_spec : {M : Type 1} → new_site.statement M
 new_spec = new_met.met
@@ -37,6 +35,3 @@ compute_visibility_spec = view_met.met
 
 pub outline_spec : {M : Type 1} → outline.statement M
 outline_spec = outline_met.met
-
-pub answer_with_spec : {M : Type 1} → text.statement M
-answer_with_spec = text_met.met
