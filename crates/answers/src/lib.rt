@@ -1,21 +1,21 @@
 // Answers as plain numbers, for callers that have no enums: the C interface (crate `exports_scene`) and the probe. An answer is a status, 0 or document 01's
-// number of the refusal, and its values, which are zeros where it is refused ("Each refusal carries its number and zero counts"). A head of a site is six
+// number of the refusal (`refusal::status`), and its values, which are zeros where it is refused ("Each refusal carries its number and zero counts"). A head of a site is six
 // floats and five numbers (specs/Head.antt). Meanings: `specs/Numbers.antt` of the crates `grid`, `build` and `scene`, whose answers they are.
 #![tactic(auto)]
 
 ghost use Rattle.std.specs.Prelude.{◌≡◌};
 ghost use Rattle.grid.specs.Boxes.{box_at};
-ghost use Rattle.grid.specs.Numbers.{listed_status, listed_counts};
-ghost use Rattle.build.specs.Numbers.{made_status, made_floats, made_counts};
-ghost use Rattle.scene.specs.Numbers.{extent_status, extent_value, bounds_status, bounds_four, dims_status, dims_two, shape_status, shape_place, shape_four, segment_status, segment_four, index_status, index_value, count_status, count_value, stamps_status, found_status, found_two, look_status, look_distance, look_three, cast_distance, cast_hit, cast_edge, whose_two};
+ghost use Rattle.grid.specs.Numbers.{listed_counts};
+ghost use Rattle.build.specs.Numbers.{made_floats, made_counts};
+ghost use Rattle.scene.specs.Numbers.{extent_value, bounds_four, dims_two, shape_place, shape_four, segment_four, number_value, found_two, look_distance, look_three, cast_distance, cast_hit, cast_edge, whose_two};
 ghost use Rattle.answers.specs.Head.{site_of};
 
-use build::Made;
 use geom::{Aabb, Vec2};
-use grid::{Grid, Listing};
-use scene::{Count, Extent, Found, GridDims, Index, Look, Region, Segment, Shape, Stamps};
-use sight::Whose;
-use site::{Cast, Site};
+use grid::{Dims, Grid, Listing};
+use refusal::Refusal;
+use scene::Polygon;
+use sight::Sighting;
+use site::{Ends, RayHit, Site};
 
 // ---- what goes in
 
@@ -51,338 +51,194 @@ pub fn box_of(b: &[f64; 4]) -> Aabb
 
 // ---- building
 
-pub fn made_status(a: Made) -> u32
-    ensures { result ≡ made_status a }
-{
-    match a {
-        Made::Site(_) => 0,
-        Made::Refused(n) => n,
-    }
-}
-
-pub fn put_head(out: &mut [f64; 6], a: Made)
+pub fn put_head(out: &mut [f64; 6], a: Result<Site, Refusal>)
     ensures { out.new ≡ made_floats a }
 {
-    match a {
-        Made::Site(s) => {
+    *out = match a {
+        Ok(s) => {
             let g = s.grid;
             let o = g.origin;
-            *out = [s.width, s.height, o.x, o.y, g.cell, g.inv_cell];
+            [s.width, s.height, o.x, o.y, g.cell, g.inv_cell]
         }
-        Made::Refused(_) => {
-            *out = [0.0, 0.0, 0.0, 0.0, 0.0, 0.0];
-        }
-    }
+        Err(_) => [0.0; 6],
+    };
 }
 
-pub fn put_head_counts(out: &mut [u32; 5], a: Made)
+pub fn put_head_counts(out: &mut [u32; 5], a: Result<Site, Refusal>)
     ensures { out.new ≡ made_counts a }
 {
-    match a {
-        Made::Site(s) => {
+    *out = match a {
+        Ok(s) => {
             let g = s.grid;
-            *out = [g.cols, g.rows, s.polygons, s.points, s.items];
+            [g.cols, g.rows, s.polygons, s.points, s.items]
         }
-        Made::Refused(_) => {
-            *out = [0, 0, 0, 0, 0];
-        }
-    }
+        Err(_) => [0; 5],
+    };
 }
 
 // ---- the box query: how many ids were written and how many entries read
 
-pub fn listed_status(a: Listing) -> u32
-    ensures { result ≡ listed_status a }
-{
-    match a {
-        Listing::Listed { written, read } => 0,
-        Listing::Refused(n) => n,
-    }
-}
-
-pub fn put_counts(out: &mut [u64; 2], a: Listing)
+pub fn put_counts(out: &mut [u64; 2], a: Result<Listing, Refusal>)
     ensures { out.new ≡ listed_counts a }
 {
-    match a {
-        Listing::Listed { written, read } => {
-            *out = [written as u64, read as u64];
-        }
-        Listing::Refused(_) => {
-            *out = [0, 0];
-        }
-    }
+    *out = match a {
+        Ok(l) => [l.written as u64, l.read as u64],
+        Err(_) => [0; 2],
+    };
 }
 
 // ---- the head's questions
 
-pub fn extent_status(a: Extent) -> u32
-    ensures { result ≡ extent_status a }
-{
-    match a {
-        Extent::Of(_) => 0,
-        Extent::Refused(n) => n,
-    }
-}
-
-pub fn extent_value(a: Extent) -> f64
+// A width or a height.
+pub fn extent_value(a: Result<f64, Refusal>) -> f64
     ensures { result ≡ extent_value a }
 {
     match a {
-        Extent::Of(x) => x,
-        Extent::Refused(_) => 0.0,
+        Ok(x) => x,
+        Err(_) => 0.0,
     }
 }
 
-pub fn bounds_status(a: Region) -> u32
-    ensures { result ≡ bounds_status a }
-{
-    match a {
-        Region::Of(_) => 0,
-        Region::Refused(n) => n,
-    }
-}
-
-pub fn put_bounds(out: &mut [f64; 4], a: Region)
+pub fn put_bounds(out: &mut [f64; 4], a: Result<Aabb, Refusal>)
     ensures { out.new ≡ bounds_four a }
 {
-    match a {
-        Region::Of(b) => {
+    *out = match a {
+        Ok(b) => {
             let lo = b.min;
             let hi = b.max;
-            *out = [lo.x, lo.y, hi.x, hi.y];
+            [lo.x, lo.y, hi.x, hi.y]
         }
-        Region::Refused(_) => {
-            *out = [0.0, 0.0, 0.0, 0.0];
-        }
-    }
+        Err(_) => [0.0; 4],
+    };
 }
 
-pub fn dims_status(a: GridDims) -> u32
-    ensures { result ≡ dims_status a }
-{
-    match a {
-        GridDims::Of { cols, rows } => 0,
-        GridDims::Refused(n) => n,
-    }
-}
-
-pub fn put_dims(out: &mut [u32; 2], a: GridDims)
+pub fn put_dims(out: &mut [u32; 2], a: Result<Dims, Refusal>)
     ensures { out.new ≡ dims_two a }
 {
-    match a {
-        GridDims::Of { cols, rows } => {
-            *out = [cols, rows];
-        }
-        GridDims::Refused(_) => {
-            *out = [0, 0];
-        }
-    }
+    *out = match a {
+        Ok(d) => [d.cols, d.rows],
+        Err(_) => [0; 2],
+    };
 }
 
 // ---- polygons and edges
 
-pub fn shape_status(a: Shape) -> u32
-    ensures { result ≡ shape_status a }
-{
-    match a {
-        Shape::Polygon { first, len, aabb } => 0,
-        Shape::Refused(n) => n,
-    }
-}
-
-pub fn put_place(out: &mut [u32; 2], a: Shape)
+pub fn put_place(out: &mut [u32; 2], a: Result<Polygon, Refusal>)
     ensures { out.new ≡ shape_place a }
 {
-    match a {
-        Shape::Polygon { first, len, aabb } => {
-            *out = [first, len];
-        }
-        Shape::Refused(_) => {
-            *out = [0, 0];
-        }
-    }
+    *out = match a {
+        Ok(p) => [p.first, p.len],
+        Err(_) => [0; 2],
+    };
 }
 
-pub fn put_box(out: &mut [f64; 4], a: Shape)
+pub fn put_box(out: &mut [f64; 4], a: Result<Polygon, Refusal>)
     ensures { out.new ≡ shape_four a }
 {
-    match a {
-        Shape::Polygon { first, len, aabb } => {
-            let lo = aabb.min;
-            let hi = aabb.max;
-            *out = [lo.x, lo.y, hi.x, hi.y];
+    *out = match a {
+        Ok(p) => {
+            let lo = p.aabb.min;
+            let hi = p.aabb.max;
+            [lo.x, lo.y, hi.x, hi.y]
         }
-        Shape::Refused(_) => {
-            *out = [0.0, 0.0, 0.0, 0.0];
-        }
-    }
+        Err(_) => [0.0; 4],
+    };
 }
 
-pub fn segment_status(s: Segment) -> u32
-    ensures { result ≡ segment_status s }
-{
-    match s {
-        Segment::Ends { a, b } => 0,
-        Segment::Refused(n) => n,
-    }
-}
-
-pub fn put_ends(out: &mut [f64; 4], s: Segment)
+pub fn put_ends(out: &mut [f64; 4], s: Result<Ends, Refusal>)
     ensures { out.new ≡ segment_four s }
 {
-    match s {
-        Segment::Ends { a, b } => {
-            *out = [a.x, a.y, b.x, b.y];
+    *out = match s {
+        Ok(e) => {
+            let a = e.a;
+            let b = e.b;
+            [a.x, a.y, b.x, b.y]
         }
-        Segment::Refused(_) => {
-            *out = [0.0, 0.0, 0.0, 0.0];
-        }
+        Err(_) => [0.0; 4],
+    };
+}
+
+// The number of a point or a polygon.
+pub fn index_value(a: Result<u32, Refusal>) -> u32
+    ensures { result ≡ number_value a }
+{
+    match a {
+        Ok(i) => i,
+        Err(_) => 0,
     }
 }
 
-pub fn index_status(a: Index) -> u32
-    ensures { result ≡ index_status a }
+// How many entries a part has. Not one function with the above: a `usize` becomes a `u64` by `as` alone.
+pub fn count_value(a: Result<usize, Refusal>) -> u64
+    ensures { result ≡ number_value a }
 {
     match a {
-        Index::At(_) => 0,
-        Index::Refused(n) => n,
-    }
-}
-
-pub fn index_value(a: Index) -> u32
-    ensures { result ≡ index_value a }
-{
-    match a {
-        Index::At(i) => i,
-        Index::Refused(_) => 0,
-    }
-}
-
-pub fn count_status(a: Count) -> u32
-    ensures { result ≡ count_status a }
-{
-    match a {
-        Count::Number(_) => 0,
-        Count::Refused(n) => n,
-    }
-}
-
-pub fn count_value(a: Count) -> u64
-    ensures { result ≡ count_value a }
-{
-    match a {
-        Count::Number(k) => k as u64,
-        Count::Refused(_) => 0,
-    }
-}
-
-pub fn stamps_status(a: Stamps) -> u32
-    ensures { result ≡ stamps_status a }
-{
-    match a {
-        Stamps::New => 0,
-        Stamps::Refused(n) => n,
+        Ok(k) => k as u64,
+        Err(_) => 0,
     }
 }
 
 // ---- a point: 1 and the id, or zeros
 
-pub fn found_status(a: Found) -> u32
-    ensures { result ≡ found_status a }
+pub fn put_whose(out: &mut [u32; 2], a: Option<u32>)
+    ensures { out.new ≡ whose_two a }
 {
-    match a {
-        Found::Id(_) => 0,
-        Found::Nobody => 0,
-        Found::Refused(n) => n,
-    }
+    *out = match a {
+        Some(k) => [1, k],
+        None => [0; 2],
+    };
 }
 
-pub fn put_found(out: &mut [u32; 2], a: Found)
+pub fn put_found(out: &mut [u32; 2], a: Result<Option<u32>, Refusal>)
     ensures { out.new ≡ found_two a }
 {
     match a {
-        Found::Id(k) => {
-            *out = [1, k];
-        }
-        Found::Nobody => {
-            *out = [0, 0];
-        }
-        Found::Refused(_) => {
-            *out = [0, 0];
-        }
-    }
-}
-
-pub fn put_whose(out: &mut [u32; 2], a: Whose)
-    ensures { out.new ≡ whose_two a }
-{
-    match a {
-        Whose::Id(k) => {
-            *out = [1, k];
-        }
-        Whose::Nobody => {
-            *out = [0, 0];
-        }
+        Ok(w) => put_whose(out, w),
+        Err(_) => *out = [0; 2],
     }
 }
 
 // ---- a cast: its distance; 1 and the edge, or zeros
 
-pub fn distance_of(a: Cast) -> f64
+pub fn distance_of(a: Option<RayHit>) -> f64
     ensures { result ≡ cast_distance a }
 {
     match a {
-        Cast::Hit(t, _) => t,
-        Cast::Miss => 0.0,
+        Some(h) => h.t,
+        None => 0.0,
     }
 }
 
-pub fn hit_of(a: Cast) -> u32
+pub fn hit_of(a: Option<RayHit>) -> u32
     ensures { result ≡ cast_hit a }
 {
-    match a {
-        Cast::Hit(_, _) => 1,
-        Cast::Miss => 0,
-    }
+    a.is_some() as u32
 }
 
-pub fn edge_of(a: Cast) -> u32
+pub fn edge_of(a: Option<RayHit>) -> u32
     ensures { result ≡ cast_edge a }
 {
     match a {
-        Cast::Hit(_, e) => e,
-        Cast::Miss => 0,
+        Some(h) => h.edge,
+        None => 0,
     }
 }
 
-pub fn look_status(a: Look) -> u32
-    ensures { result ≡ look_status a }
-{
-    match a {
-        Look::Seen { hit, cells } => 0,
-        Look::Refused(n) => n,
-    }
-}
-
-pub fn look_distance(a: Look) -> f64
+pub fn look_distance(a: Result<Sighting, Refusal>) -> f64
     ensures { result ≡ look_distance a }
 {
     match a {
-        Look::Seen { hit, cells } => distance_of(hit),
-        Look::Refused(_) => 0.0,
+        Ok(s) => distance_of(s.hit),
+        Err(_) => 0.0,
     }
 }
 
 // Whether there is a hit, its edge, and the cells entered.
-pub fn put_look(out: &mut [u64; 3], a: Look)
+pub fn put_look(out: &mut [u64; 3], a: Result<Sighting, Refusal>)
     ensures { out.new ≡ look_three a }
 {
-    match a {
-        Look::Seen { hit, cells } => {
-            *out = [hit_of(hit) as u64, edge_of(hit) as u64, cells as u64];
-        }
-        Look::Refused(_) => {
-            *out = [0, 0, 0];
-        }
-    }
+    *out = match a {
+        Ok(s) => [hit_of(s.hit) as u64, edge_of(s.hit) as u64, s.cells as u64],
+        Err(_) => [0; 3],
+    };
 }

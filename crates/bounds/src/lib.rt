@@ -1,6 +1,6 @@
 // Whole-number bounds of float results: the laws are in proofs/Within.antt and proofs/Domain.antt, and
 // speak of specs/Within.antt. Beside them the two tests of document 01's "Domain" that a site's numbers have to pass (specs/Domain.antt).
-// A comparison has no effect, so `&` joins two of them: no branch.
+// A comparison has no effect, so `&` joins two of them: no branch, of which a range's `contains` has two.
 #![tactic(auto)]
 
 ghost use Rattle.std.specs.Prelude.{◌≡◌};

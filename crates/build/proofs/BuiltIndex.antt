@@ -1,5 +1,6 @@
 -- WHAT BUILDING MAKES IS INDEXED: the starts and the items that `new` leaves are those that `tables::build` makes of its grid and its boxes, so that what is shown
 -- of such tables (demand 3 of the box query, crate `tables`) holds of every site built; and the grid is the one of the boxes left. Assumes nothing.
+use Rattle.std.proofs.Common.{Ok}
 use mathlib.Core.Path.{◌≡◌, sym, ap, ◌∙◌, subst}
 use mathlib.Core.List.{List}
 use Prim.Native.Nat.{ℕ, ◌+◌, ◌-◌, ◌*◌, ◌≤◌, ◌<◌}
@@ -19,7 +20,6 @@ use Rattle.grid.specs.Query as query
 use Rattle.extent.specs.Boxes.{boxes_of}
 use Rattle.extent.specs.Extent.{bounds_of, cell_size_of}
 use Rattle.extent.proofs.SoundHead.{table_boxes}
-use Rattle.tables.specs.declared.Built.TheVariants.{Items}
 use Rattle.tables.proofs.BuiltQuery.{Demand, demand}
 use Rattle.tables.specs.Tables as tabled
 use Rattle.tables.proofs.Whole as whole
@@ -29,7 +29,6 @@ use Rattle.site.specs.Tables.{Tables}
 use Rattle.build.specs.Stored.{stored_box, stored_boxes, box_numbers, boxes_table, grid_by, bounds_in, cell_in, grid_of, span_in}
 use Rattle.build.specs.Refusals.{item_count}
 use Rattle.build.specs.Outcome.{site_of, plan_of, tables_of, rooms_of, outcome, Does}
-use Rattle.build.specs.declared.Made.TheVariants as made
 use Rattle.build.proofs.Spans.{items_ext, starts_ext, table_box}
 use Rattle.build.proofs.Deciding.{Going, going}
 use Rattle.build.proofs.Making.{roomy, limited, grid_of_lem}
@@ -43,7 +42,7 @@ boxes_in given lens m k h = table_box (stored_box given lens) (length lens) k (r
 -- what the theorem says of a site s with the tables left, where starts and items were lent
 pub record Indexed (s : Site) (left : Tables) (starts items : List ℕ) : Type 0 where
   pub buildable : tabled.Buildable s.grid left.boxes s.polygons
-  pub built : tabled.Does (tabled.outcome s.grid left.boxes s.polygons starts items) (Items s.items) left.starts left.items
+  pub built : tabled.Does (tabled.outcome s.grid left.boxes s.polygons starts items) (Ok s.items) left.starts left.items
   -- the grid is the one of the site's width and height and of its boxes
   pub over_boxes : s.grid ≡ grid_by (bounds_of s.width s.height (boxes_of left.boxes s.polygons)) (cell_size_of (boxes_of left.boxes s.polygons) (bounds_of s.width s.height (boxes_of left.boxes s.polygons)))
 
@@ -87,7 +86,7 @@ module _ (width height : Float) (given : List Float) (lens : List ℕ) (lent : T
       over = unfold grid_of bounds_in cell_in in rw all_boxes
 
 -- THE THEOREM
-pub built_index : (width height : Float) (given : List Float) (lens : List ℕ) (lent left : Tables) (s : Site) → Does (outcome width height given lens lent) (made.Site s) left → Indexed s left lent.starts lent.items
+pub built_index : (width height : Float) (given : List Float) (lens : List ℕ) (lent left : Tables) (s : Site) → Does (outcome width height given lens lent) (Ok s) left → Indexed s left lent.starts lent.items
 unfolding outcome
 built_index width height given lens lent left s d =
     let p = plan_of_lem (plan_of width height given lens (rooms_of lent)) given lens lent left s d in
@@ -98,7 +97,7 @@ built_index width height given lens lent left s d =
 
 -- DEMAND 3 OF THE BOX QUERY, of a site that building made: with fresh stamps, no fewer than the polygons, ids are listed once and exactly where the ranges share a cell,
 -- and the entries read are those that the cells hold
-pub built_query : (width height : Float) (given : List Float) (lens : List ℕ) (lent left : Tables) (s : Site) → Does (outcome width height given lens lent) (made.Site s) left
+pub built_query : (width height : Float) (given : List Float) (lens : List ℕ) (lent left : Tables) (s : Site) → Does (outcome width height given lens lent) (Ok s) left
     → (b : Aabb) (marks : List ℕ) (epoch room : ℕ) → s.polygons ≤ length marks → Fresh epoch marks
     → Demand s.grid (tabled.span_of s.grid left.boxes) s.polygons b room (query.outcome s.grid b left.starts left.items marks epoch room)
 built_query width height given lens lent left s d =

@@ -1,5 +1,6 @@
 -- WHAT BUILDING MAKES IS SOUND (document 01, "Sound tables"): wherever `new` answers with a site, the six tables that it leaves pass the test of soundness
 -- that every question asks first. Assumes nothing.
+use Rattle.std.proofs.Common.{Option, Err, Ok, Result, None}
 use mathlib.Core.Path.{◌≡◌, refl, sym, ap, ◌∙◌}
 use mathlib.Core.Logic.{⊎_elim}
 use mathlib.Core.Bool.{true, false, false≢true}
@@ -22,7 +23,6 @@ use Rattle.geom.specs.Box.{empty_box, is_empty_of}
 use Rattle.bounds.specs.Domain.{in_domain}
 use Rattle.grid.specs.Boxes.{box_at}
 use Rattle.grid.specs.declared.Grid.{Grid}
-use Rattle.grid.specs.declared.Range.{Range}
 use Rattle.grid.specs.Range.{range_of}
 use Rattle.grid.proofs.Ranges.{empty_none}
 use Rattle.extent.specs.Sound.{SoundHead}
@@ -34,13 +34,10 @@ use Rattle.site.specs.Domain.{load_of, point_in_domain}
 use Rattle.site.specs.Tables.{Tables, len_of, point_at, owner_at, item_at, box_of}
 use Rattle.site.specs.Soundness.{same_box, sound_of, Sound}
 use Rattle.site.proofs.SoundLaws.{tested}
-use Rattle.build.specs.declared.Plan.{Plan}
-use Rattle.build.specs.declared.Plan.TheVariants.{Go, Refuse}
 use Rattle.build.specs.Stored.{len_in, first_in, stored_of, stored_box, stored_boxes, points_of, box_numbers, boxes_table, polygons_table, owners_table, grid_by, bounds_in, cell_in, grid_of, span_in}
 use Rattle.build.specs.Refusals.{points_in, item_count, Counted}
 use Rattle.build.specs.Checks.{Inside}
 use Rattle.build.specs.Outcome.{site_of, plan_of, tables_of, outcome_by, rooms_of, outcome, Does}
-use Rattle.build.specs.declared.Made.TheVariants as made
 use Rattle.build.proofs.Orders.{held, points_length, box_few}
 use Rattle.build.proofs.Writing.{blocks_length}
 use Rattle.build.proofs.Spans.{table_box}
@@ -50,6 +47,8 @@ use Rattle.build.proofs.Domain.{InDomain, stored_in, box_same}
 use Rattle.build.proofs.Laid.{first_is, len_is, box_is_right, owner_is, block_of}
 use Rattle.build.proofs.Making.{roomy, limited, grid_of_lem}
 use Rattle.build.proofs.RefusedWhen.{inside}
+use Rattle.grid.specs.declared.CellRange.{CellRange}
+use Rattle.refusal.specs.declared.Refusal.{Refusal}
 
 -- ---- the head
 pub head : (width height : Float) (given : List Float) (lens : List ℕ) → length lens ≤ 4096 → Inside width height given → SoundHead (bounds_in width height given lens) (cell_in width height given lens)
@@ -77,12 +76,12 @@ all_points_length given lens c = points_length given lens (length lens) c (le_of
 
 -- ---- the items name polygons of three points or more
 corner : (g : Grid) (given : List Float) (lens : List ℕ) (k c : ℕ) → Counted given lens → k < length lens → covers g.cols (span_in g given lens k) c ≡ true → 3 ≤ len_in lens k
-corner g given lens k c d h e = ⊎_elim (λ l. absurd (false≢true (sym (ap (λ (s : Range). covers g.cols s c) (none l)) ∙ e))) (λ l. l) (lt_or_le (len_in lens k) 3)
+corner g given lens k c d h e = ⊎_elim (λ l. absurd (false≢true (sym (ap (λ (s : (Option CellRange)). covers g.cols s c) (none l)) ∙ e))) (λ l. l) (lt_or_le (len_in lens k) 3)
   where
     hollow : is_empty_of empty_box ≡ true
     hollow = unfold is_empty_of le in refl
 
-    none : len_in lens k < 3 → span_in g given lens k ≡ Range.Nothing
+    none : len_in lens k < 3 → span_in g given lens k ≡ None
     none l =
         unfold span_in stored_box stored_of in
         ap (range_of g) (sym (box_few given (first_in lens k) (len_in lens k) (held given lens k d h) l)) ∙ empty_none g empty_box hollow
@@ -194,19 +193,19 @@ module _ (width height : Float) (given : List Float) (lens : List ℕ) (lent : T
       }
 
 -- an outcome that answers with a site is that of a plan to make it
-pub plan_of_lem : (p : Plan) (given : List Float) (lens : List ℕ) (lent left : Tables) (s : Site) → Does (outcome_by p given lens lent) (made.Site s) left → (p ≡ Go s) × (left ≡ tables_of s.grid given lens lent)
+pub plan_of_lem : (p : Result Site Refusal) (given : List Float) (lens : List ℕ) (lent left : Tables) (s : Site) → Does (outcome_by p given lens lent) (Ok s) left → (p ≡ Ok s) × (left ≡ tables_of s.grid given lens lent)
 unfolding outcome_by
-plan_of_lem (Refuse number) given lens lent left s d = absurd (no d.says)
+plan_of_lem (Err refusal) given lens lent left s d = absurd (no d.says)
   where
-    no : made.Site s ≡ made.Refused number → ⊥
+    no : ◌≡◌ {A = Result Site Refusal} (Ok s) (Err refusal) → ⊥
     no e = let z : ◌≡◌ {A = ℕ} 0 1 = cc in omega arith
-plan_of_lem (Go x) given lens lent left s d = let e : s ≡ x = same d.says in (ap Go (sym e), d.leaves ∙ ap (λ (y : Site). tables_of y.grid given lens lent) (sym e))
+plan_of_lem (Ok x) given lens lent left s d = let e : s ≡ x = same d.says in (ap Ok (sym e), d.leaves ∙ ap (λ (y : Site). tables_of y.grid given lens lent) (sym e))
   where
-    same : made.Site s ≡ made.Site x → s ≡ x
+    same : ◌≡◌ {A = Result Site Refusal} (Ok s) (Ok x) → s ≡ x
     same e = cc
 
 -- THE THEOREM
-pub built_sound : (width height : Float) (given : List Float) (lens : List ℕ) (lent left : Tables) (s : Site) → Does (outcome width height given lens lent) (made.Site s) left → sound_of s left ≡ true
+pub built_sound : (width height : Float) (given : List Float) (lens : List ℕ) (lent left : Tables) (s : Site) → Does (outcome width height given lens lent) (Ok s) left → sound_of s left ≡ true
 unfolding outcome
 built_sound width height given lens lent left s d =
     let p = plan_of_lem (plan_of width height given lens (rooms_of lent)) given lens lent left s d in

@@ -1,4 +1,5 @@
 -- The ways through the decision: each refusal, and what is known of a site that is to be made. Assumes nothing.
+use Rattle.std.proofs.Common.{Err, Ok, Result}
 use mathlib.Core.Path.{◌≡◌, refl}
 use mathlib.Core.Bool.{Bool, true, false, cond}
 use mathlib.Core.List.{List}
@@ -21,12 +22,12 @@ use Rattle.tables.specs.Tables.{Limits}
 use Rattle.site.specs.declared.Site.{Site}
 use Rattle.site.specs.Domain.{load_of}
 use Rattle.build.specs.declared.Rooms.{Rooms}
-use Rattle.build.specs.declared.Plan.{Plan}
-use Rattle.build.specs.declared.Plan.TheVariants.{Go, Refuse}
 use Rattle.build.specs.Stored.{first_in, stored_boxes, grid_by, bounds_in, cell_in, grid_of}
 use Rattle.build.specs.Refusals.{points_in, too_many, adds_up, all_inside, few_cells, item_count, has_room, Counted}
 use Rattle.build.specs.Checks.{Space}
 use Rattle.build.specs.Outcome.{site_of, plan_by, plan_of}
+use Rattle.refusal.specs.declared.Refusal.{Refusal}
+use Rattle.refusal.specs.declared.Refusal.TheVariants.{LengthsDiffer, NoTableRoom, OutsideDomain, TooMany, TooManyCells}
 
 -- ---- the numbers of cells
 pub some_columns : (w cell : Float) → 0 < columns_of w cell
@@ -48,12 +49,12 @@ module _ (width height : Float) (g : Grid) (given : List Float) (lens : List ℕ
   few : few_cells g.cols g.rows ≡ true
   few = le-leb (g.cols * g.rows) 1048576 l.small
 
-  pub no_room : r ≡ false → Refuse 5 ≡ plan_by width height g given lens room
+  pub no_room : r ≡ false → Err NoTableRoom ≡ plan_by width height g given lens room
   unfolding plan_by
   no_room f = rw (few, ← e, ← d, f)
 
   pub some_room : (w h : Float) → r ≡ true → w ≡ load_of width → h ≡ load_of height
-      → Go (record { width = w; height = h; grid = g; polygons = length lens; points = points_in given; items = n }) ≡ plan_by width height g given lens room
+      → Ok (record { width = w; height = h; grid = g; polygons = length lens; points = points_in given; items = n }) ≡ plan_by width height g given lens room
   unfolding plan_by site_of
   some_room w h f p q = rw (few, ← e, ← d, f, p, q)
 
@@ -85,7 +86,7 @@ module _ (width height : Float) (given : List Float) (lens : List ℕ) (bounds :
   unfolding grid_of grid_by bounds_in cell_in cell_size_of cols_of rows_of
   grid_is = rw (p, q, c, s, b)
 
-  pub many_cells : (room : Rooms) (r : Bool) → r ≡ few_cells cols rows → r ≡ false → Refuse 4 ≡ plan_by width height (grid_of width height given lens) given lens room
+  pub many_cells : (room : Rooms) (r : Bool) → r ≡ few_cells cols rows → r ≡ false → Err TooManyCells ≡ plan_by width height (grid_of width height given lens) given lens room
   unfolding plan_by
   many_cells room r d f =
       let g : record { origin = bounds.min; cell = cell; inv_cell = one_f ⊘ cell; cols = cols; rows = rows } ≡ grid_of width height given lens = grid_is in
@@ -93,17 +94,17 @@ module _ (width height : Float) (given : List Float) (lens : List ℕ) (bounds :
 
 -- ---- the tests on what is given
 module _ (width height : Float) (given : List Float) (lens : List ℕ) (room : Rooms) where
-  pub too_many_way : too_many given lens ≡ true → Refuse 2 ≡ plan_of width height given lens room
+  pub too_many_way : too_many given lens ≡ true → Err TooMany ≡ plan_of width height given lens room
   unfolding plan_of
   too_many_way e = rw e
 
   module _ (a : too_many given lens ≡ false) where
-    pub not_adding : adds_up given lens ≡ false → Refuse 3 ≡ plan_of width height given lens room
+    pub not_adding : adds_up given lens ≡ false → Err LengthsDiffer ≡ plan_of width height given lens room
     unfolding plan_of
     not_adding e = rw (a, e)
 
     module _ (b : adds_up given lens ≡ true) where
-      pub outside_way : all_inside width height given ≡ false → Refuse 1 ≡ plan_of width height given lens room
+      pub outside_way : all_inside width height given ≡ false → Err OutsideDomain ≡ plan_of width height given lens room
       unfolding plan_of
       outside_way e = rw (a, b, e)
 
@@ -130,26 +131,26 @@ pub record Going (width height : Float) (given : List Float) (lens : List ℕ) (
   pub fits : has_room room (length lens) (points_in given) ((grid_of width height given lens).cols * (grid_of width height given lens).rows) (item_count (grid_of width height given lens) given lens) ≡ true
   pub is : s ≡ site_of width height (grid_of width height given lens) given lens
 
-never : {A : Type 0} {n : ℕ} {s : Site} → Refuse n ≡ Go s → A
+never : {A : Type 0} {n : Refusal} {s : Site} → ◌≡◌ {A = Result Site Refusal} (Err n) (Ok s) → A
 never e = let z : ◌≡◌ {A = ℕ} 0 1 = cc in absurd (omega arith)
 
-on_true : (t : Bool) (p : Plan) (n : ℕ) (s : Site) → cond t p (Refuse n) ≡ Go s → (t ≡ true) × (p ≡ Go s)
+on_true : (t : Bool) (p : Result Site Refusal) (n : Refusal) (s : Site) → cond t p (Err n) ≡ Ok s → (t ≡ true) × (p ≡ Ok s)
 on_true true p n s e = (refl, e)
 on_true false p n s e = never e
 
-on_false : (t : Bool) (p : Plan) (n : ℕ) (s : Site) → cond t (Refuse n) p ≡ Go s → (t ≡ false) × (p ≡ Go s)
+on_false : (t : Bool) (p : Result Site Refusal) (n : Refusal) (s : Site) → cond t (Err n) p ≡ Ok s → (t ≡ false) × (p ≡ Ok s)
 on_false true p n s e = never e
 on_false false p n s e = (refl, e)
 
-pub going : (width height : Float) (given : List Float) (lens : List ℕ) (room : Rooms) (s : Site) → plan_of width height given lens room ≡ Go s → Going width height given lens room s
+pub going : (width height : Float) (given : List Float) (lens : List ℕ) (room : Rooms) (s : Site) → plan_of width height given lens room ≡ Ok s → Going width height given lens room s
 unfolding plan_of plan_by
 going width height given lens room s e =
-    let a = on_false (too_many given lens) _ 2 s e in
-    let b = on_true (adds_up given lens) _ 3 s a.1 in
-    let d = on_true (all_inside width height given) _ 1 s b.1 in
-    let f = on_true (few_cells (grid_of width height given lens).cols (grid_of width height given lens).rows) _ 4 s d.1 in
-    let g = on_true (has_room room (length lens) (points_in given) ((grid_of width height given lens).cols * (grid_of width height given lens).rows) (item_count (grid_of width height given lens) given lens)) _ 5 s f.1 in
+    let a = on_false (too_many given lens) _ TooMany s e in
+    let b = on_true (adds_up given lens) _ LengthsDiffer s a.1 in
+    let d = on_true (all_inside width height given) _ OutsideDomain s b.1 in
+    let f = on_true (few_cells (grid_of width height given lens).cols (grid_of width height given lens).rows) _ TooManyCells s d.1 in
+    let g = on_true (has_room room (length lens) (points_in given) ((grid_of width height given lens).cols * (grid_of width height given lens).rows) (item_count (grid_of width height given lens) given lens)) _ NoTableRoom s f.1 in
     record { counts = counted given lens a.0 b.0; inside = d.0; few = f.0; fits = g.0; is = same g.1 }
   where
-    same : {x y : Site} → Go x ≡ Go y → y ≡ x
+    same : {x y : Site} → ◌≡◌ {A = Result Site Refusal} (Ok x) (Ok y) → y ≡ x
     same p = cc

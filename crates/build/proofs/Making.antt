@@ -1,4 +1,5 @@
 -- The ways through `new`: refused, and made. What the writing asks is what the decision has tested. Assumes nothing.
+use Rattle.std.proofs.Common.{Err, Ok}
 use mathlib.Core.Path.{◌≡◌, refl, ap}
 use mathlib.Core.List.{List}
 use Prim.Native.Nat.{ℕ, ◌+◌, ◌*◌, ◌≤◌, ◌<◌}
@@ -15,15 +16,14 @@ use Rattle.tables.specs.Tables.{Limits, items_of, cell_start}
 use Rattle.site.specs.declared.Site.{Site}
 use Rattle.site.specs.Tables.{Tables, tables, box_of}
 use Rattle.build.specs.declared.Rooms.{Rooms}
-use Rattle.build.specs.declared.Plan.TheVariants.{Go, Refuse}
 use Rattle.build.specs.Stored.{first_in, points_of, box_numbers, boxes_table, polygons_table, owners_table, grid_by, grid_of, span_in}
 use Rattle.build.specs.Refusals.{points_in, item_count, Counted}
 use Rattle.build.specs.Checks.{Space}
 use Rattle.build.specs.Outcome.{site_of, plan_of, tables_of, outcome_by, rooms_of, outcome, Does, span_at, Indexable}
-use Rattle.build.specs.declared.Made.TheVariants as made
 use Rattle.build.proofs.Spans.{items_ext, starts_ext}
 use Rattle.build.proofs.Deciding.{space, Going, going, some_columns, cells_limits}
 use Rattle.build.proofs.Laid.{span_right, boxes_right}
+use Rattle.refusal.specs.declared.Refusal.{Refusal}
 
 module _ (width height : Float) (given : List Float) (lens : List ℕ) (room : Rooms) (s : Site) (w : Going width height given lens room s) where
   pub roomy : Space room (length lens) (points_in given) ((grid_of width height given lens).cols * (grid_of width height given lens).rows) (item_count (grid_of width height given lens) given lens)
@@ -89,16 +89,16 @@ module _ (width height : Float) (given : List Float) (lens : List ℕ) (room : R
 
 -- ---- the outcome
 module _ (width height : Float) (given : List Float) (lens : List ℕ) (lent : Tables) where
-  pub refused_way : (number : ℕ) → plan_of width height given lens (rooms_of lent) ≡ Refuse number → Does (outcome width height given lens lent) (made.Refused number) lent
+  pub refused_way : (number : Refusal) → plan_of width height given lens (rooms_of lent) ≡ Err number → Does (outcome width height given lens lent) (Err number) lent
   unfolding outcome outcome_by
   refused_way number e = rw e (record { says = refl; leaves = refl })
 
-  pub made_way : (s : Site) → plan_of width height given lens (rooms_of lent) ≡ Go s → (points boxes : List Float) (polygons owners starts items : List ℕ)
+  pub made_way : (s : Site) → plan_of width height given lens (rooms_of lent) ≡ Ok s → (points boxes : List Float) (polygons owners starts items : List ℕ)
       → points ≡ padded zero_f (length lent.points) (points_of given lens) → polygons ≡ padded 0 (length lent.polygons) (polygons_table lens) → owners ≡ padded 0 (length lent.owners) (owners_table lens)
       → boxes ≡ padded zero_f (length lent.boxes) (joined (λ k. box_numbers (box_of points polygons k)) s.polygons)
       → starts ≡ padded 0 (length lent.starts) (listed (cell_start (span_at s.grid points polygons) s.polygons s.grid.cols) (s.grid.cols * s.grid.rows + 1))
       → items ≡ padded 0 (length lent.items) (items_of (span_at s.grid points polygons) s.polygons s.grid.cols (s.grid.cols * s.grid.rows))
-      → Does (outcome width height given lens lent) (made.Site s) (tables points boxes polygons owners starts items)
+      → Does (outcome width height given lens lent) (Ok s) (tables points boxes polygons owners starts items)
   unfolding outcome outcome_by tables_of
   made_way s e points boxes polygons owners starts items p q o b st it =
       let w = going width height given lens (rooms_of lent) s e in

@@ -1,5 +1,6 @@
 -- WHEN BUILDING REFUSES, AND AS WHAT: its status is n if and only if document 01's row of n says so, in document 01's order of checks, 2, 3, 1, 4, 5; what passes them
 -- all is built, with status 0. Document 01, "Refusal numbers". Assumes nothing.
+use Rattle.std.proofs.Common.{Err, Ok, Result}
 use mathlib.Core.Path.{◌≡◌, refl}
 use mathlib.Core.Bool.{true, false, ◌&&◌}
 use mathlib.Core.List.{List}
@@ -15,14 +16,14 @@ use Rattle.site.specs.Checks.{Exactly}
 use Rattle.site.specs.Tables.{Tables}
 use Rattle.site.proofs.Checks.{all_passed, by_true, by_false, either}
 use Rattle.build.specs.declared.Rooms.{Rooms}
-use Rattle.build.specs.declared.Plan.{Plan}
-use Rattle.build.specs.declared.Plan.TheVariants.{Go, Refuse}
 use Rattle.build.specs.Stored.{first_in, grid_of}
 use Rattle.build.specs.Refusals.{points_in, too_many, adds_up, numbers_in, all_inside, few_cells, item_count, has_room}
 use Rattle.build.specs.Checks.{Few, AddUp, Inside, Space, grid_checks, build_checks}
 use Rattle.build.specs.Outcome.{plan_by, plan_of, outcome_by, rooms_of, outcome}
-use Rattle.build.specs.Numbers.{made_status}
 use Rattle.build.proofs.Deciding.{space}
+use Rattle.refusal.specs.declared.Refusal.{Refusal}
+use Rattle.site.specs.declared.Site.{Site}
+use Rattle.refusal.specs.Numbers.{status_of}
 
 -- ---- each test says what its row says
 few : (given : List Float) (lens : List ℕ) → too_many given lens ≡ false → Few given lens
@@ -67,32 +68,27 @@ has_room_lem room polygons points cells items h =
       le-leb _ _ h.few_items,
     )
 
--- ---- the plan's number is the answer's
-abbrev pub plan_status : Plan → ℕ
-plan_status (Go s) = 0
-plan_status (Refuse n) = n
-
-pub plan_status_lem : (p : Plan) (given : List Float) (lens : List ℕ) (lent : Tables) → plan_status p ≡ made_status (outcome_by p given lens lent).answer
+pub plan_status_lem : (p : (Result Site Refusal)) (given : List Float) (lens : List ℕ) (lent : Tables) → status_of p ≡ status_of (outcome_by p given lens lent).answer
 unfolding outcome_by
-plan_status_lem (Go s) given lens lent = refl
-plan_status_lem (Refuse n) given lens lent = refl
+plan_status_lem (Ok s) given lens lent = refl
+plan_status_lem (Err n) given lens lent = refl
 
 module _ (width height : Float) (given : List Float) (lens : List ℕ) (room : Rooms) where
   -- ---- 4 and 5
-  pub grid_exactly : (g : Grid) → Exactly (grid_checks g given lens room) (plan_status (plan_by width height g given lens room))
+  pub grid_exactly : (g : Grid) → Exactly (grid_checks g given lens room) (status_of (plan_by width height g given lens room))
   unfolding plan_by
   grid_exactly g =
-      rw (either plan_status (few_cells g.cols g.rows), either plan_status (has_room room (length lens) (points_in given) (g.cols * g.rows) (item_count g given lens)))
+      rw (either status_of (few_cells g.cols g.rows), either status_of (has_room room (length lens) (points_in given) (g.cols * g.rows) (item_count g given lens)))
       (by_true 4 _ _ _ (few_cells g.cols g.rows) refl (leb-true _ _) (le-leb _ _)
       (λ f. by_true 5 _ _ _ (has_room room (length lens) (points_in given) (g.cols * g.rows) (item_count g given lens)) refl
       (space room (length lens) (points_in given) (g.cols * g.rows) (item_count g given lens)) (has_room_lem room (length lens) (points_in given) (g.cols * g.rows) (item_count g given lens))
       (λ h. all_passed)))
 
   -- ---- 2, 3 and 1 before them
-  pub plan_exactly : Exactly (build_checks width height given lens room) (plan_status (plan_of width height given lens room))
+  pub plan_exactly : Exactly (build_checks width height given lens room) (status_of (plan_of width height given lens room))
   unfolding plan_of
   plan_exactly =
-      rw (either plan_status (too_many given lens), either plan_status (adds_up given lens), either plan_status (all_inside width height given))
+      rw (either status_of (too_many given lens), either status_of (adds_up given lens), either status_of (all_inside width height given))
       (by_false 2 _ _ _ (too_many given lens) refl (few given lens) (not_many given lens)
       (λ f. by_true 3 _ _ _ (adds_up given lens) refl (add_up given lens) (numbers_add_up given lens)
       (λ a. by_true 1 _ _ _ (all_inside width height given) refl (inside width height given) (all_inside_lem width height given)
@@ -100,7 +96,7 @@ module _ (width height : Float) (given : List Float) (lens : List ℕ) (room : R
 
 -- BUILDING
 pub new_exactly : (width height : Float) (given : List Float) (lens : List ℕ) (lent : Tables)
-    → Exactly (build_checks width height given lens (rooms_of lent)) (made_status (outcome width height given lens lent).answer)
+    → Exactly (build_checks width height given lens (rooms_of lent)) (status_of (outcome width height given lens lent).answer)
 unfolding outcome
 new_exactly width height given lens lent =
     rw (plan_status_lem (plan_of width height given lens (rooms_of lent)) given lens lent) at (plan_exactly width height given lens (rooms_of lent))

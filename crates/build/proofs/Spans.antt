@@ -1,4 +1,5 @@
 -- The polygons' boxes and cells: bounds and sides by one polygon more, the number of items, and tables that are the same where the cells are. Assumes nothing.
+use Rattle.std.proofs.Common.{Option}
 use mathlib.Core.Path.{◌≡◌, refl, sym, ap, ◌∙◌}
 use mathlib.Core.List.{List, ◌++◌}
 use Prim.Native.Nat.{ℕ, suc, ◌+◌, ◌-◌, ◌*◌, ◌≤◌, ◌<◌}
@@ -17,7 +18,6 @@ use Rattle.num.specs.Ops.{zero_f}
 use Rattle.geom.specs.declared.Aabb.{Aabb}
 use Rattle.grid.specs.Boxes.{box_from, box_at}
 use Rattle.grid.specs.declared.Grid.{Grid}
-use Rattle.grid.specs.declared.Range.{Range}
 use Rattle.grid.specs.Range.{range_of}
 use Rattle.extent.specs.declared.Sides.{Sides}
 use Rattle.extent.specs.Extent.{bounds_of, join_box_of, sides_of, add_side_of}
@@ -29,6 +29,7 @@ use Rattle.site.specs.Tables.{box_of}
 use Rattle.build.specs.Stored.{stored_box, box_numbers, span_in}
 use Rattle.build.specs.Refusals.{item_count}
 use Rattle.build.specs.Outcome.{span_at}
+use Rattle.grid.specs.declared.CellRange.{CellRange}
 
 -- ---- bounds and sides
 module _ (f : ℕ → Aabb) (k : ℕ) where
@@ -70,9 +71,9 @@ module _ (g : Grid) (given : List Float) (lens : List ℕ) where
       valid id = unfold span_in in valid_box g (stored_box given lens id) l
 
 -- ---- the same cells, the same tables
-module _ (p q : ℕ → Range) (n cols : ℕ) (same : (k : ℕ) → k < n → p k ≡ q k) where
+module _ (p q : ℕ → (Option CellRange)) (n cols : ℕ) (same : (k : ℕ) → k < n → p k ≡ q k) where
   cell_ext : (c : ℕ) → cell_items p n cols c ≡ cell_items q n cols c
-  cell_ext c = filter_ext (λ id. covers cols (p id) c) (λ id. covers cols (q id) c) (counting 0 n) (all_counting _ 0 n (λ k g l. ap (λ (s : Range). covers cols s c) (same k (omega arith))))
+  cell_ext c = filter_ext (λ id. covers cols (p id) c) (λ id. covers cols (q id) c) (counting 0 n) (all_counting _ 0 n (λ k g l. ap (λ (s : (Option CellRange)). covers cols s c) (same k (omega arith))))
 
   pub items_ext : (cells : ℕ) → items_of p n cols cells ≡ items_of q n cols cells
   items_ext cells = joined_ext (cell_items p n cols) (cell_items q n cols) cells (λ c h. cell_ext c)

@@ -1,12 +1,14 @@
 -- Lists stored into lent slices: number after number, block after block from the front, and zeros after the last. Assumes nothing.
-use mathlib.Core.Path.{◌≡◌, refl, ◌∙◌}
+use mathlib.Core.Path.{◌≡◌, refl, sym, ap, ◌∙◌}
 use mathlib.Core.List.{List, [], ◌∷◌, ◌++◌}
 use Prim.Native.Nat.{ℕ, suc, ◌+◌, ◌-◌, ◌*◌, ◌≤◌, ◌<◌}
 use native.Mathlib.Nat.{zero-add}
 use native.Mathlib.Numerals.{add-one}
 use native.Mathlib.Omega.{arith}
-use lib.ListN.{length, get_or, set, take, drop, replicate, length-replicate, replicate-append-replicate}
-use lib.Seq.{sets, length-sets, length-take-le, take-suc, take_all, take_at}
+use lib.ListN.{length, get_or, set, take, drop, length-take, length-drop, replicate, length-replicate}
+use lib.Seq.{sets, sets-eq, length-sets, length-take-le, take-suc, take_all, take_at}
+use borrow.Rule.Slice.PartMut.{put_mid}
+use Rattle.std.proofs.lemmas.Slice.{put_mid-paste}
 use Rattle.lists.specs.Lists.{joined, sum_to}
 use Rattle.lists.specs.Parts.{padded}
 use Rattle.lists.proofs.Joined.{length_joined}
@@ -34,9 +36,13 @@ module _ {A : Type 0} where
       let one : l₂ ≡ sets l a (take (suc (2 * i)) xs) = rw (e₂, e₁, p, q) (next_number l a xs (2 * i) z (omega arith)) in
       rw (e₃, one, o, r, m, n) (next_number l a xs (suc (2 * i)) z (omega arith))
 
-  -- one copy more of a number
-  pub next_copy : (l : List A) (a i : ℕ) (x : A) → set (sets l a (replicate i x)) (a + i) x ≡ sets l a (replicate (i + 1) x)
-  next_copy l a i x = rw (← replicate-append-replicate i 1 x, sets_append l a (replicate i x) (x ∷ []), length-replicate i x)
+  -- a part filled with one number
+  pub filled : (l xs : List A) (a e n : ℕ) (x : A) → e ≡ a + n → e ≤ length l → xs ≡ replicate (length (take (e - a) (drop a l))) x → put_mid a (e - a) l xs ≡ sets l a (replicate n x)
+  filled l xs a e n x g h f =
+      let k : e - a ≡ n = omega arith in
+      let p : length (take (e - a) (drop a l)) ≡ n = simp (length-take, length-drop) (omega arith) in
+      let z : length (replicate n x) ≡ n = length-replicate n x in
+      put_mid-paste a (e - a) l xs (replicate n x) n (f ∙ ap (λ (m : ℕ). replicate m x) p) (sym k) (sym z) ∙ sym (sets-eq (replicate n x) l a (omega arith) ∙ rw (z, take_all n (replicate n x) (omega arith)))
 
   -- one block more
   pub next_block : (l : List A) (f : ℕ → List A) (k at : ℕ) (l₁ l₂ xs : List A) → l₁ ≡ sets l 0 (joined f k) → l₂ ≡ sets l₁ at xs → xs ≡ f k → at ≡ length (joined f k) → l₂ ≡ sets l 0 (joined f (k + 1))

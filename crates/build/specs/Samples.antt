@@ -16,12 +16,12 @@ use Rattle.site.specs.Tables.{tables}
 use Rattle.build.specs.Stored.{given_at, is_reversed, ordered_at, stored_at, stored_of, stored_box, stored_boxes, grid_by, bounds_in, cell_in, grid_of, span_in}
 use Rattle.build.specs.Refusals.{too_many, adds_up, numbers_in, all_inside, item_count, has_room}
 use Rattle.build.specs.Outcome.{site_of, plan_by, plan_of, outcome_by, outcome}
-use Rattle.build.specs.Numbers.{made_status}
+use Rattle.refusal.specs.Numbers.{status_of}
 
 -- the status of building a site whose starts have room for so many
 unfoldable pub answered : ℕ → ℕ → List ℕ → List ℕ → ℕ → ℕ
 answered w h points lens starts =
-    made_status (outcome (count_f w) (count_f h) (map count_f points) lens (tables (replicate 8 zero_f) (replicate 4 zero_f) (replicate 2 0) (replicate 4 0) (replicate starts 0) (replicate 4 0))).answer
+    status_of (outcome (count_f w) (count_f h) (map count_f points) lens (tables (replicate 8 zero_f) (replicate 4 zero_f) (replicate 2 0) (replicate 4 0) (replicate starts 0) (replicate 4 0))).answer
 
 -- document 01's site A has 36 cells: with room for one start fewer than it takes, too wide, with a coordinate too large, its lengths wrong; and too many polygons
 pub answers :

@@ -1,7 +1,7 @@
 -- What a site stores of the polygons given: their points as they are stored, and the four tables made of them (`Scene::new` of `scene.rs`, lines 103 to 155;
 -- document 01, "Site and grid"). The points are given as one list of numbers, x and y by turns, polygon after polygon, and beside it the list of the
 -- polygons' lengths. Definitions only.
-use Rattle.std.specs.Prelude.{Bool, cond, List, [], ◌∷◌, ◌++◌, map, ℕ, ◌+◌, ◌*◌, length, get_or, replicate, Float}
+use Rattle.std.specs.Prelude.{Bool, cond, List, [], ◌∷◌, ◌++◌, map, ℕ, ◌+◌, ◌*◌, length, get_or, replicate, Float, Option}
 use Rattle.std.specs.Float.Ieee.{lt}
 use Rattle.lists.specs.Lists.{joined, listed, sum_to}
 use Rattle.lists.specs.Parts.{part}
@@ -9,11 +9,11 @@ use Rattle.num.specs.Ops.{◌⊘◌, zero_f, one_f}
 use Rattle.geom.specs.declared.Aabb.{Aabb}
 use Rattle.geom.specs.Ring.{signed_area_of}
 use Rattle.grid.specs.declared.Grid.{Grid}
-use Rattle.grid.specs.declared.Range.{Range}
 use Rattle.grid.specs.Range.{range_of}
 use Rattle.extent.specs.Boxes.{polygon_box_of}
 use Rattle.extent.specs.Extent.{bounds_of, cell_size_of, cols_of, rows_of}
 use Rattle.site.specs.Domain.{load_of}
+use Rattle.grid.specs.declared.CellRange.{CellRange}
 
 -- ---- where the polygon k stands: how many points it has, and how many come before it
 abbrev pub len_in : List ℕ → ℕ → ℕ
@@ -98,5 +98,5 @@ unfoldable pub grid_of : Float → Float → List Float → List ℕ → Grid
 grid_of width height given lens = grid_by (bounds_in width height given lens) (cell_in width height given lens)
 
 -- the cells of the polygon k
-unfoldable pub span_in : Grid → List Float → List ℕ → ℕ → Range
+unfoldable pub span_in : Grid → List Float → List ℕ → ℕ → Option CellRange
 span_in g given lens k = range_of g (stored_box given lens k)

@@ -4,7 +4,7 @@
 // numbers). That a site so made is sound is proofs/BuiltSound.antt; that it refuses exactly when document 01 says is proofs/RefusedWhen.antt.
 #![tactic(auto)]
 
-ghost use Rattle.std.specs.Prelude.{◌≡◌, ◌+◌, ◌*◌, ◌<◌, ◌≤◌, length, replicate};
+ghost use Rattle.std.specs.Prelude.{◌≡◌, ◌+◌, ◌*◌, ◌<◌, ◌≤◌, length};
 ghost use Rattle.std.proofs.lemmas.List.Edits.{sets};
 ghost use Rattle.lists.specs.Lists.{joined, listed};
 ghost use Rattle.lists.specs.Parts.{padded};
@@ -23,21 +23,8 @@ ghost use Rattle.build.specs.Outcome.{span_at, Indexable, plan_by, plan_of, outc
 use extent::Sides;
 use geom::{Aabb, Vec2};
 use grid::Grid;
+use refusal::Refusal;
 use site::Site;
-
-// The answer of the building: the site's head, or the refusal's number.
-#[derive(Clone, Copy)]
-pub enum Made {
-    Site(Site),
-    Refused(u32),
-}
-
-// What is decided before the first write.
-#[derive(Clone, Copy)]
-enum Plan {
-    Go(Site),
-    Refuse(u32),
-}
 
 // The lengths of the six lent tables.
 #[derive(Clone, Copy)]
@@ -64,13 +51,7 @@ fn sum_of(lens: &[u32]) -> usize
     requires { length lens.now ≤ 4096 }
     ensures { (result ≡ first_in lens.now (length lens.now)) × (result ≤ 4096 * 4294967295) }
 {
-    let mut sum: usize = 0;
-    let mut k: usize = 0;
-    while k < lens.len() {
-        sum += lists::wide(lists::at32(lens, k));
-        k += 1;
-    }
-    sum
+    lens.iter().map(|&len| len as usize).sum()
 }
 
 // Refusal 3 where it fails: the lengths add up to the points given.
@@ -86,10 +67,8 @@ fn numbers_in(given: &[f64]) -> bool
     ensures { result ≡ numbers_in given.now }
 {
     let mut ok = true;
-    let mut i: usize = 0;
-    while i < given.len() {
-        ok = ok & bounds::in_domain(lists::at64(given, i));
-        i += 1;
+    for &x in given {
+        ok &= bounds::in_domain(x);
     }
     ok
 }
@@ -110,8 +89,8 @@ fn given_point(given: &[f64], i: usize) -> Vec2
 {
     let at = 2 * i;
     Vec2 {
-        x: site::load(lists::at64(given, at)),
-        y: site::load(lists::at64(given, at + 1)),
+        x: site::load(lists::at(given, at)),
+        y: site::load(lists::at(given, at + 1)),
     }
 }
 
@@ -121,12 +100,10 @@ fn area_of(given: &[f64], first: usize, len: usize) -> f64
     ensures { result ≡ signed_area_of (given_at given.now first len) }
 {
     let mut s = 0.0;
-    let mut i: usize = 0;
-    while i < len {
+    for i in 0..len {
         let a = given_point(given, first + i);
         let b = given_point(given, first + (i + 1) % len);
-        s = s + a.cross(b);
-        i += 1;
+        s += a.cross(b);
     }
     0.5 * s
 }
@@ -144,10 +121,8 @@ fn ordered_point(given: &[f64], first: usize, len: usize, reversed: bool, i: usi
     requires { Held given.now first len × (i < len) }
     ensures { result ≡ corner_of (ordered_at reversed given.now first len) i }
 {
-    if reversed {
-        return given_point(given, first + (len - 1 - i));
-    }
-    given_point(given, first + i)
+    let at = if reversed { len - 1 - i } else { i };
+    given_point(given, first + at)
 }
 
 // The smallest box around the points, in their order.
@@ -156,10 +131,8 @@ fn box_around(given: &[f64], first: usize, len: usize, reversed: bool) -> Aabb
     ensures { result ≡ from_points_of (ordered_at reversed given.now first len) }
 {
     let mut b = Aabb::empty();
-    let mut i: usize = 0;
-    while i < len {
+    for i in 0..len {
         b = b.include(ordered_point(given, first, len, reversed, i));
-        i += 1;
     }
     b
 }
@@ -198,14 +171,12 @@ fn measure(width: f64, height: f64, given: &[f64], lens: &[u32]) -> Measured
     };
     let mut sides = Sides { sum: 0.0, count: 0 };
     let mut first: usize = 0;
-    let mut k: usize = 0;
-    while k < lens.len() {
-        let len = lists::wide(lists::at32(lens, k));
+    for &len in lens {
+        let len = len as usize;
         let b = stored_box(given, first, len);
         bounds = extent::join_box(bounds, b);
         sides = extent::add_side(sides, b);
         first += len;
-        k += 1;
     }
     Measured { bounds, sides }
 }
@@ -215,13 +186,7 @@ fn few_cells(cols: u64, rows: u64) -> bool
     requires { (0 < cols) × (0 < rows) }
     ensures { result ≡ few_cells cols rows }
 {
-    if cols > 1048576 {
-        return false;
-    }
-    if rows > 1048576 {
-        return false;
-    }
-    cols * rows <= 1048576
+    cols <= 1048576 && rows <= 1048576 && cols * rows <= 1048576
 }
 
 // How many items the grid has: the cells that the boxes cover.
@@ -231,12 +196,10 @@ fn item_count(g: Grid, given: &[f64], lens: &[u32]) -> usize
 {
     let mut n: usize = 0;
     let mut first: usize = 0;
-    let mut k: usize = 0;
-    while k < lens.len() {
-        let len = lists::wide(lists::at32(lens, k));
+    for &len in lens {
+        let len = len as usize;
         n += tables::cell_count(g, stored_box(given, first, len));
         first += len;
-        k += 1;
     }
     n
 }
@@ -258,16 +221,23 @@ fn has_room(room: Rooms, polygons: usize, points: usize, cells: usize, items: us
 // ---- the decision
 
 // The test of the room, once the grid is known.
-fn fit(width: f64, height: f64, g: Grid, given: &[f64], lens: &[u32], room: Rooms) -> Plan
+fn fit(
+    width: f64,
+    height: f64,
+    g: Grid,
+    given: &[f64],
+    lens: &[u32],
+    room: Rooms,
+) -> Result<Site, Refusal>
     requires { Limits g × Counted given.now lens.now }
     ensures { result ≡ plan_by width height g given.now lens.now room }
 {
     let n = item_count(g, given, lens);
     let cells = g.cols as usize * g.rows as usize;
     if !has_room(room, lens.len(), given.len() / 2, cells, n) {
-        return Plan::Refuse(5);
+        return Err(Refusal::NoTableRoom);
     }
-    Plan::Go(Site {
+    Ok(Site {
         width: site::load(width),
         height: site::load(height),
         grid: g,
@@ -278,21 +248,25 @@ fn fit(width: f64, height: f64, g: Grid, given: &[f64], lens: &[u32], room: Room
 }
 
 // The grid, and the tests of the cells and of the room.
-fn lay_grid(width: f64, height: f64, given: &[f64], lens: &[u32], room: Rooms) -> Plan
+fn lay_grid(
+    width: f64,
+    height: f64,
+    given: &[f64],
+    lens: &[u32],
+    room: Rooms,
+) -> Result<Site, Refusal>
     requires { Counted given.now lens.now }
     ensures { result ≡ plan_by width height (grid_of width height given.now lens.now) given.now lens.now room }
 {
-    let m = measure(site::load(width), site::load(height), given, lens);
-    let bounds = m.bounds;
-    let cell = extent::cell_from(m.sides, bounds);
+    let Measured { bounds, sides } = measure(site::load(width), site::load(height), given, lens);
+    let cell = extent::cell_from(sides, bounds);
     let cols = grid::columns(bounds.width(), cell);
     let rows = grid::columns(bounds.height(), cell);
     if !few_cells(cols, rows) {
-        return Plan::Refuse(4);
+        return Err(Refusal::TooManyCells);
     }
-    let origin = bounds.min;
     let g = Grid {
-        origin,
+        origin: bounds.min,
         cell,
         inv_cell: 1.0 / cell,
         cols: cols as u32,
@@ -302,17 +276,23 @@ fn lay_grid(width: f64, height: f64, given: &[f64], lens: &[u32], room: Rooms) -
 }
 
 // Everything that can be refused, in document 01's order: 2, 3, 1, 4, 5.
-fn decide(width: f64, height: f64, given: &[f64], lens: &[u32], room: Rooms) -> Plan
+fn decide(
+    width: f64,
+    height: f64,
+    given: &[f64],
+    lens: &[u32],
+    room: Rooms,
+) -> Result<Site, Refusal>
     ensures { result ≡ plan_of width height given.now lens.now room }
 {
     if too_many(given, lens) {
-        return Plan::Refuse(2);
+        return Err(Refusal::TooMany);
     }
     if !adds_up(given, lens) {
-        return Plan::Refuse(3);
+        return Err(Refusal::LengthsDiffer);
     }
     if !all_inside(width, height, given) {
-        return Plan::Refuse(1);
+        return Err(Refusal::OutsideDomain);
     }
     lay_grid(width, height, given, lens, room)
 }
@@ -324,13 +304,11 @@ fn write_ordered(points: &mut [f64], given: &[f64], first: usize, len: usize, re
     requires { Held given.now first len }
     ensures { points.new ≡ sets points.old (2 * first) (ordered_at reversed given.now first len) }
 {
-    let mut i: usize = 0;
-    while i < len {
+    for i in 0..len {
         let p = ordered_point(given, first, len, reversed, i);
         let at = 2 * (first + i);
-        lists::put64(&mut *points, at, p.x);
-        lists::put64(&mut *points, at + 1, p.y);
-        i += 1;
+        lists::put(points, at, p.x);
+        lists::put(points, at + 1, p.y);
     }
 }
 
@@ -340,15 +318,13 @@ fn write_points(points: &mut [f64], given: &[f64], lens: &[u32])
     ensures { points.new ≡ padded zero_f (length points.old) (points_of given.now lens.now) }
 {
     let mut first: usize = 0;
-    let mut k: usize = 0;
-    while k < lens.len() {
-        let len = lists::wide(lists::at32(lens, k));
+    for &len in lens {
+        let len = len as usize;
         let reversed = is_reversed(given, first, len);
-        write_ordered(&mut *points, given, first, len, reversed);
+        write_ordered(points, given, first, len, reversed);
         first += len;
-        k += 1;
     }
-    lists::clear_from64(points, given.len());
+    lists::clear_from(points, given.len());
 }
 
 // Writes where each polygon's points start and how many they are, and zeros after them.
@@ -357,27 +333,12 @@ fn write_polygons(polygons: &mut [u32], lens: &[u32])
     ensures { polygons.new ≡ padded 0 (length polygons.old) (polygons_table lens.now) }
 {
     let mut first: u32 = 0;
-    let mut k: usize = 0;
-    while k < lens.len() {
-        let len = lists::at32(lens, k);
-        lists::put32(&mut *polygons, 2 * k, first);
-        lists::put32(&mut *polygons, 2 * k + 1, len);
+    for (k, &len) in lens.iter().enumerate() {
+        lists::put(polygons, 2 * k, first);
+        lists::put(polygons, 2 * k + 1, len);
         first += len;
-        k += 1;
     }
-    lists::clear_from32(polygons, 2 * lens.len());
-}
-
-// Writes the polygon k as the owner of len points.
-fn own(owners: &mut [u32], first: usize, len: usize, k: u32)
-    requires { first + len ≤ length owners.old }
-    ensures { owners.new ≡ sets owners.old first (replicate len k) }
-{
-    let mut i: usize = 0;
-    while i < len {
-        owners[first + i] = k;
-        i += 1;
-    }
+    lists::clear_from(polygons, 2 * lens.len());
 }
 
 // Writes each point's owner, and zeros after them.
@@ -386,14 +347,12 @@ fn write_owners(owners: &mut [u32], lens: &[u32])
     ensures { owners.new ≡ padded 0 (length owners.old) (owners_table lens.now) }
 {
     let mut first: usize = 0;
-    let mut k: usize = 0;
-    while k < lens.len() {
-        let len = lists::wide(lists::at32(lens, k));
-        own(&mut *owners, first, len, k as u32);
-        first += len;
-        k += 1;
+    for (k, &len) in lens.iter().enumerate() {
+        let end = first + len as usize;
+        owners[first..end].fill(k as u32);
+        first = end;
     }
-    lists::clear_from32(owners, first);
+    lists::clear_from(owners, first);
 }
 
 // Points, polygons and owners: the Rust's loop over the polygons without their boxes.
@@ -418,11 +377,11 @@ fn lay_out(
 fn put_box(boxes: &mut [f64], k: u32, b: Aabb)
     ensures { boxes.new ≡ sets boxes.old (4 * k) (box_numbers b) }
 {
-    let at = 4 * lists::wide(k);
-    lists::put64(&mut *boxes, at, b.min.x);
-    lists::put64(&mut *boxes, at + 1, b.min.y);
-    lists::put64(&mut *boxes, at + 2, b.max.x);
-    lists::put64(&mut *boxes, at + 3, b.max.y);
+    let at = 4 * k as usize;
+    lists::put(boxes, at, b.min.x);
+    lists::put(boxes, at + 1, b.min.y);
+    lists::put(boxes, at + 2, b.max.x);
+    lists::put(boxes, at + 3, b.max.y);
 }
 
 // Writes the boxes that the stored points give, and zeros after them.
@@ -430,12 +389,10 @@ fn write_boxes(boxes: &mut [f64], points: &[f64], polygons: &[u32], n: u32)
     requires { 4 * n ≤ length boxes.old }
     ensures { boxes.new ≡ padded zero_f (length boxes.old) (joined (λ k. box_numbers (box_of points.now polygons.now k)) n) }
 {
-    let mut k: u32 = 0;
-    while k < n {
-        put_box(&mut *boxes, k, site::box_of(points, polygons, k));
-        k += 1;
+    for k in 0..n {
+        put_box(boxes, k, site::box_of(points, polygons, k));
     }
-    lists::clear_from64(boxes, 4 * lists::wide(n));
+    lists::clear_from(boxes, 4 * n as usize);
 }
 
 // The boxes of the stored points, and the grid's starts and items.
@@ -453,8 +410,8 @@ fn index(
     ensures starts_after { starts.new ≡ padded 0 (length starts.old) (listed (cell_start (span_at g points.now polygons.now) n g.cols) (g.cols * g.rows + 1)) }
     ensures after { items.new ≡ padded 0 (length items.old) (items_of (span_at g points.now polygons.now) n g.cols (g.cols * g.rows)) }
 {
-    write_boxes(&mut *boxes, points, polygons, n);
-    tables::fill(g, boxes, lists::wide(n), starts, items);
+    write_boxes(boxes, points, polygons, n);
+    tables::fill(g, boxes, n as usize, starts, items);
 }
 
 // Builds a site from its width, its height, the numbers of all points (x, y, polygon after polygon) and the polygons' lengths. The head is
@@ -470,7 +427,7 @@ pub fn new(
     owners: &mut [u32],
     starts: &mut [u32],
     items: &mut [u32],
-) -> Made
+) -> Result<Site, Refusal>
     ensures { Does (outcome width height given.now lens.now (tables points.old boxes.old polygons.old owners.old starts.old items.old)) result
         (tables points.new boxes.new polygons.new owners.new starts.new items.new) }
 {
@@ -482,20 +439,16 @@ pub fn new(
         starts: starts.len(),
         items: items.len(),
     };
-    match decide(width, height, given, lens, room) {
-        Plan::Refuse(no) => Made::Refused(no),
-        Plan::Go(site) => {
-            lay_out(given, lens, &mut *points, &mut *polygons, owners);
-            index(
-                site.grid,
-                points,
-                polygons,
-                site.polygons,
-                boxes,
-                starts,
-                items,
-            );
-            Made::Site(site)
-        }
-    }
+    let site = decide(width, height, given, lens, room)?;
+    lay_out(given, lens, points, polygons, owners);
+    index(
+        site.grid,
+        points,
+        polygons,
+        site.polygons,
+        boxes,
+        starts,
+        items,
+    );
+    Ok(site)
 }

@@ -16,52 +16,35 @@ const MOST: usize = 16385;
 // The longest answer here, an outline of 2,048 points, has 57,033 bytes.
 const ROOM: usize = 65536;
 
-// How many bytes of text follow, or that no case is left.
-#[derive(Clone, Copy)]
-enum Case {
-    Text(usize),
-    End,
-}
-
-fn wide(b: u8) -> usize {
-    b as usize
-}
-
-// The next byte of a case's line, printed; 0 at the end of the input.
-fn next_byte(rt: HostRuntime) -> io::Result<u8> {
+// The next byte of a case's line, printed; none at the end of the input.
+fn next_byte(rt: HostRuntime) -> io::Result<Option<u8>> {
     let mut byte = [0u8; 1];
     if rt.stdin().read(&mut byte)? == 0 {
-        return Ok(0);
+        return Ok(None);
     }
     rt.write_all(&byte)?;
-    Ok(byte[0])
+    Ok(Some(byte[0]))
 }
 
-// The number that a case's line begins with, five digits at most, and the space after it.
-fn read_bytes(rt: HostRuntime) -> io::Result<Case> {
+// The number that a case's line begins with, five digits at most, and the space after it: how many bytes of text follow. None, where no case is left;
+// a byte 0 ends the cases too.
+fn read_bytes(rt: HostRuntime) -> io::Result<Option<usize>> {
     let mut n: usize = 0;
-    let mut left: u32 = 6;
-    while 0 < left {
-        left -= 1;
-        let b = next_byte(rt)?;
-        if b == b' ' {
-            return Ok(Case::Text(n));
+    for _ in 0..6 {
+        match next_byte(rt)? {
+            Some(b' ') => return Ok(Some(n)),
+            None | Some(0) => return Ok(None),
+            Some(b) => n = n % 10000 * 10 + usize::from(b % 16),
         }
-        if b == 0 {
-            return Ok(Case::End);
-        }
-        n = n % 10000 * 10 + wide(b) % 16;
     }
-    Ok(Case::End)
+    Ok(None)
 }
 
 // The name, up to the end of its line.
 fn pass_name(rt: HostRuntime) -> io::Result<()> {
-    let mut left: u32 = 1000;
-    while 0 < left {
-        left -= 1;
-        if next_byte(rt)? == b'\n' {
-            return Ok(());
+    for _ in 0..1000 {
+        if next_byte(rt)? == Some(b'\n') {
+            break;
         }
     }
     Ok(())
@@ -70,7 +53,7 @@ fn pass_name(rt: HostRuntime) -> io::Result<()> {
 // Prints an answer of r bytes. What is longer than the room for it is not printed.
 fn print_answer(rt: HostRuntime, r: usize, out: &[u8]) -> io::Result<()> {
     if r <= out.len() {
-        rt.write_all(&out[0..r])?;
+        rt.write_all(&out[..r])?;
     }
     Ok(())
 }
@@ -81,14 +64,12 @@ fn read_full(rt: HostRuntime, part: &mut [u8]) -> io::Result<usize>
 {
     let most = part.len();
     let mut n: usize = 0;
-    let mut left = most;
-    while 0 < left {
-        left -= 1;
+    for _ in 0..most {
         let got = rt.stdin().read(&mut part[n..most])?;
         if got == 0 {
             return Ok(n);
         }
-        n = lists::least(n + got, most);
+        n = (n + got).min(most);
     }
     Ok(n)
 }
@@ -96,13 +77,13 @@ fn read_full(rt: HostRuntime, part: &mut [u8]) -> io::Result<usize>
 // Reads a text of n bytes and the LF after it, and prints both answers.
 fn print_case(rt: HostRuntime, n: usize, text: &mut [u8], out: &mut [u8]) -> io::Result<()> {
     if n <= text.len() {
-        let got = read_full(rt, &mut text[0..n])?;
+        let got = read_full(rt, &mut text[..n])?;
         let mut end = [0u8; 1];
         rt.stdin().read(&mut end)?;
-        let r = planner::answer(&text[0..got], &mut *out);
+        let r = planner::answer(&text[..got], &mut *out);
         print_answer(rt, r, &*out)?;
         rt.write_all(b"3 DECIMALS\n")?;
-        let k = planner::answer_three(&text[0..got], &mut *out);
+        let k = planner::answer_three(&text[..got], &mut *out);
         print_answer(rt, k, &*out)?;
     }
     Ok(())
@@ -111,16 +92,12 @@ fn print_case(rt: HostRuntime, n: usize, text: &mut [u8], out: &mut [u8]) -> io:
 fn main(rt: HostRuntime) -> io::Result<()> {
     let mut text = [0u8; MOST];
     let mut out = [0u8; ROOM];
-    let mut left: u32 = 1000;
-    while 0 < left {
-        left -= 1;
-        match read_bytes(rt)? {
-            Case::Text(n) => {
-                pass_name(rt)?;
-                print_case(rt, n, &mut text, &mut out)?;
-            }
-            Case::End => left = 0,
-        }
+    for _ in 0..1000 {
+        let Some(n) = read_bytes(rt)? else {
+            break;
+        };
+        pass_name(rt)?;
+        print_case(rt, n, &mut text, &mut out)?;
     }
     Ok(())
 }

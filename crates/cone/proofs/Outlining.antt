@@ -1,4 +1,5 @@
 -- The ways through `ViewCone::outline`: each ends with the outcome. Assumes nothing.
+use Rattle.std.proofs.Common.{Err, Ok}
 use mathlib.Core.Path.{◌≡◌, sym, ap, ◌∙◌}
 use mathlib.Core.Bool.{true, false}
 use mathlib.Core.List.{List, ◌++◌}
@@ -14,18 +15,18 @@ use Rattle.lists.proofs.Parts.{laid}
 use Rattle.lists.proofs.Zeros.{clear_padded}
 use Rattle.site.specs.Domain.{load_of}
 use Rattle.cone.specs.declared.ViewCone.{ViewCone}
-use Rattle.cone.specs.declared.Outlined.TheVariants.{Points, Refused}
 use Rattle.cone.specs.Cone.{numbers_of, Drawn}
 use Rattle.cone.specs.Domain.{cone_in_domain, load_cone_of}
 use Rattle.cone.specs.Outline.{outcome, points_for, laid_in, outline_outcome}
 use Rattle.cone.proofs.Arcs.{length_numbers}
+use Rattle.refusal.specs.declared.Refusal.TheVariants.{NoListRoom, OutsideDomain}
 
 module _ (c : ViewCone) (tolerance : Float) (old : List Float) where
-  pub way_one : cone_in_domain c ≡ false → outcome (Refused 1) old ≡ outline_outcome c tolerance old
+  pub way_one : cone_in_domain c ≡ false → outcome (Err OutsideDomain) old ≡ outline_outcome c tolerance old
   unfolding outline_outcome
   way_one i = rw i
 
-  eight_is : cone_in_domain c ≡ true → length old < 2 * length (points_for c tolerance) → outline_outcome c tolerance old ≡ outcome (Refused 8) (replicate (length old) zero_f)
+  eight_is : cone_in_domain c ≡ true → length old < 2 * length (points_for c tolerance) → outline_outcome c tolerance old ≡ outcome (Err NoListRoom) (replicate (length old) zero_f)
   unfolding outline_outcome
   eight_is i h = rw (i, lt-ltb (length old) (2 * length (points_for c tolerance)) h)
 
@@ -41,12 +42,12 @@ module _ (c : ViewCone) (tolerance : Float) (old : List Float) where
     points : mid ≡ sets old 0 (numbers_of (points_for c tolerance))
     points = rw (l_is, u_is) at D.points
 
-    pub way_eight : {new : List Float} → length mid < 2 * n → new ≡ replicate (length mid) zero_f → outcome (Refused 8) new ≡ outline_outcome c tolerance old
+    pub way_eight : {new : List Float} → length mid < 2 * n → new ≡ replicate (length mid) zero_f → outcome (Err NoListRoom) new ≡ outline_outcome c tolerance old
     way_eight {new} h e =
         let k : length old < 2 * length (points_for c tolerance) = omega (arith, count) in
         rw (eight_is i k, e, long)
 
-    pub way_laid : {new : List Float} → 2 * n ≤ length mid → new ≡ take (2 * n) mid ++ replicate (length mid - 2 * n) zero_f → outcome (Points n) new ≡ outline_outcome c tolerance old
+    pub way_laid : {new : List Float} → 2 * n ≤ length mid → new ≡ take (2 * n) mid ++ replicate (length mid - 2 * n) zero_f → outcome (Ok n) new ≡ outline_outcome c tolerance old
     way_laid {new} h e =
         let xs = numbers_of (points_for c tolerance) in
         let m : 2 * n ≡ length xs = ap (λ (q : ℕ). 2 * q) count ∙ sym (length_numbers (points_for c tolerance)) in

@@ -12,6 +12,7 @@ ghost use Rattle.cone.specs.Domain.{cone_in_domain, load_cone_of};
 ghost use Rattle.cone.specs.Outline.{outcome, Promise};
 
 use geom::{Aabb, Vec2};
+use refusal::Refusal;
 
 const TAU: f64 = 6.283185307179586;
 
@@ -38,13 +39,6 @@ pub struct View {
     pub full: bool,
     pub fov: f64,
     pub start: f64,
-}
-
-// What `outline` answers: how many points the list holds, or the number of the refusal.
-#[derive(Clone, Copy)]
-pub enum Outlined {
-    Points(usize),
-    Refused(u32),
 }
 
 impl ViewCone {
@@ -134,21 +128,21 @@ impl ViewCone {
 
     // The outline of the cone itself, as if nothing stood in it: a circle, or the origin and an arc, as x and y by turns in front of a lent list, zeros behind it.
     // 1: the cone is outside the domain, and nothing is written. 8: the list is too short, and it is all zero.
-    pub fn outline(self, tolerance: f64, out: &mut [f64]) -> Outlined
+    pub fn outline(self, tolerance: f64, out: &mut [f64]) -> Result<usize, Refusal>
         ensures { Promise self tolerance out.old (outcome result out.new) }
     {
         if !self.in_domain() {
-            return Outlined::Refused(1);
+            return Err(Refusal::OutsideDomain);
         }
         let n = self.loaded().draw(site::load(tolerance), &mut *out);
         let room = out.len();
         let end = 2 * n;
         if room < end {
-            lists::clear64(out);
-            return Outlined::Refused(8);
+            lists::clear(out);
+            return Err(Refusal::NoListRoom);
         }
-        lists::clear_from64(out, end);
-        Outlined::Points(n)
+        lists::clear_from(out, end);
+        Ok(n)
     }
 
     // The same without the tests, of a cone and a tolerance as they are: answers how many points there are, and writes those that there is room for.
@@ -160,11 +154,11 @@ impl ViewCone {
         let n = steps(self, tolerance);
         if v.full {
             put_arc(v, r, n, n, 0, out);
-            return lists::wide(n);
+            return n as usize;
         }
         put_point(out, 0, v.o);
         put_arc(v, r, n, n + 1, 1, out);
-        lists::wide(n) + 2
+        n as usize + 2
     }
 }
 
@@ -246,10 +240,7 @@ fn steps(cone: ViewCone, tolerance: f64) -> u32
     ensures { result ≡ steps_of cone tolerance }
 {
     let n = num::to_u64(num::ceil(fov_of(cone) / arc_step(reach(cone), tolerance)));
-    if n < 1 {
-        return 1;
-    }
-    n as u32
+    n.max(1) as u32
 }
 
 // The point k of an arc of so many steps.
@@ -263,9 +254,9 @@ fn arc_point(v: View, r: f64, steps: u32, k: u32) -> Vec2
 fn put_point(out: &mut [f64], i: u32, p: Vec2)
     ensures { out.new ≡ sets out.old (2 * i) (p.x ∷ p.y ∷ []) }
 {
-    let at = 2 * lists::wide(i);
-    lists::put64(out, at, p.x);
-    lists::put64(out, at + 1, p.y);
+    let at = 2 * i as usize;
+    lists::put(out, at, p.x);
+    lists::put(out, at + 1, p.y);
 }
 
 // Makes the first n points of an arc the points from `at` on, as far as there is room.
@@ -273,9 +264,7 @@ fn put_arc(v: View, r: f64, steps: u32, n: u32, at: u32, out: &mut [f64])
     requires { at + n < 4294967296 }
     ensures { out.new ≡ sets out.old (2 * at) (numbers_of (arc_of v r steps n)) }
 {
-    let mut k: u32 = 0;
-    while k < n {
+    for k in 0..n {
         put_point(out, at + k, arc_point(v, r, steps, k));
-        k += 1;
     }
 }

@@ -2,6 +2,7 @@
 -- other mode, given the edge answered: that is one of them (`credits_answer`); each of them is that edge or a tied one (`credits_tied`); no owner has two
 -- (`credits_once`); and every owner of a tied edge, of the 4,096 that a sound site may have, has one (`credits_every`). Below: each way through `further` and
 -- `credit`, over plain values. Assumes nothing.
+use Rattle.std.proofs.Common.{None, Option, Some}
 use mathlib.Core.Path.{◌≡◌, refl, sym, ap, ◌∙◌, subst}
 use mathlib.Core.Logic.{◌⊎◌, inl, inr, ⊎_elim}
 use mathlib.Core.Bool.{Bool, true, false, cond}
@@ -19,8 +20,6 @@ use Rattle.lists.proofs.Cases.{lt_or_le, eq_or_ne}
 use Rattle.lists.proofs.Members.{in_left, in_right, in_either, in_map, from_map}
 use Rattle.geom.specs.Constants.{nano}
 use Rattle.geom.specs.declared.Vec2.{Vec2}
-use Rattle.site.specs.declared.Cast.{Cast}
-use Rattle.site.specs.declared.Cast.TheVariants.{Hit, Miss}
 use Rattle.site.specs.Tables.{owner_at}
 use Rattle.room.specs.declared.Rooms.{Rooms}
 use Rattle.room.specs.declared.LocalEdge.{LocalEdge}
@@ -36,6 +35,8 @@ use Rattle.outline.specs.declared.Trace.{Trace}
 use Rattle.outline.specs.Outline.{Own, owned, own_of, Room}
 use Rattle.credit.specs.Credit.{firsts_of, no_marks, tied_numbers, further_of, credits_of, own_all, Raised, Credited}
 use Rattle.credit.proofs.Ways.{all_raised, all_credited, all_joined}
+use Rattle.site.specs.Hits.{hit_at}
+use Rattle.site.specs.declared.RayHit.{RayHit}
 
 -- ---- marks
 marked_one : (l : List ℕ) (i : ℕ) → get_or (set l i 1) i 1 ≡ 1
@@ -118,11 +119,11 @@ module _ (x : Index) (owners : List ℕ) (o : Vec2) (angle : Float) (dir : Vec2)
   further_rust h = rw (eq-eqb x.head.mode 0 h)
 
   module _ (ties : x.head.mode ≡ 0 → ⊥) where
-    pub further_miss : cast_of x o angle dir max ≡ Miss → further_of x owners o angle dir max ≡ []
+    pub further_miss : cast_of x o angle dir max ≡ None → further_of x owners o angle dir max ≡ []
     unfolding further_of
     further_miss h = rw (ne_eqb x.head.mode 0 ties, h)
 
-    module _ (t : Float) (f : ℕ) (hit : cast_of x o angle dir max ≡ Hit t f) where
+    module _ (t : Float) (f : ℕ) (hit : cast_of x o angle dir max ≡ hit_at t f) where
       abbrev numbers : List ℕ
       numbers = tied_numbers o dir t (tested_in x o angle dir max)
 
@@ -147,12 +148,12 @@ module _ (x : Index) (owners : List ℕ) (o : Vec2) (angle : Float) (dir : Vec2)
           each (y ∷ l) a = (ap (owner_at owners) a.0, each l a.1)
 
   -- so a cast that is not tied has none, in either mode
-  pub further_none : ((t : Float) (f : ℕ) → cast_of x o angle dir max ≡ Hit t f → is_tied x o angle dir max ≡ false) → further_of x owners o angle dir max ≡ []
+  pub further_none : ((t : Float) (f : ℕ) → cast_of x o angle dir max ≡ hit_at t f → is_tied x o angle dir max ≡ false) → further_of x owners o angle dir max ≡ []
   further_none lone = ⊎_elim further_rust (λ n. by n (cast_of x o angle dir max) refl) (eq_or_ne x.head.mode 0)
     where
-      by : (x.head.mode ≡ 0 → ⊥) → (c : Cast) → cast_of x o angle dir max ≡ c → further_of x owners o angle dir max ≡ []
-      by n (Hit t f) h = further_alone n t f h (lone t f h)
-      by n Miss h = further_miss n h
+      by : (x.head.mode ≡ 0 → ⊥) → (c : (Option RayHit)) → cast_of x o angle dir max ≡ c → further_of x owners o angle dir max ≡ []
+      by n (Some q) h = further_alone n q.t q.edge h (lone q.t q.edge h)
+      by n None h = further_miss n h
 
 module _ (x : Index) (owners : List ℕ) (o : Vec2) (angle : Float) (dir : Vec2) (max : Float) (e : ℕ) where
   abbrev credits : List ℕ
@@ -168,7 +169,7 @@ module _ (x : Index) (owners : List ℕ) (o : Vec2) (angle : Float) (dir : Vec2)
   pub credits_answer : In e credits
   credits_answer = subst (In e) (sym credits_are) (in_right e (further_of x owners o angle dir max) (e ∷ []) (inl refl))
 
-  module _ (ties : x.head.mode ≡ 0 → ⊥) (t : Float) (hit : cast_of x o angle dir max ≡ Hit t e) where
+  module _ (ties : x.head.mode ≡ 0 → ⊥) (t : Float) (hit : cast_of x o angle dir max ≡ hit_at t e) where
     abbrev others : List ℕ
     others = firsts_of owners (set no_marks (owner_at owners e) 1) (numbers x owners o angle dir max ties t e hit)
 
@@ -238,23 +239,23 @@ module _ (k : Rooms) (x : AngularIndex) (floats : List Float) (words owners : Li
     unfolding cast_of
     cast_was = cast_is nano k x floats words o angle dir max w from to W
 
-    pub more_miss : w.found ≡ false → owned marks s ≡ own_all room owners more marks s
+    pub more_miss : w.edge ≡ None → owned marks s ≡ own_all room owners more marks s
     more_miss h = nothing (further_miss index owners o angle dir max on (sym cast_was ∙ sym (cast_miss w h)))
 
-    module _ (h : w.found ≡ true) where
-      hit : cast_of index o angle dir max ≡ Hit w.t w.edge
-      hit = sym cast_was ∙ sym (cast_hit w h)
+    module _ (f : ℕ) (h : w.edge ≡ Some f) where
+      hit : cast_of index o angle dir max ≡ hit_at w.t f
+      hit = sym cast_was ∙ sym (cast_hit w f h)
 
       pub more_alone : w.tied ≡ false → owned marks s ≡ own_all room owners more marks s
-      more_alone z = nothing (further_alone index owners o angle dir max on w.t w.edge hit (sym (tie_is k x floats words o angle dir max W) ∙ z))
+      more_alone z = nothing (further_alone index owners o angle dir max on w.t f hit (sym (tie_is k x floats words o angle dir max W) ∙ z))
 
-      pub more_tied : {mine : List ℕ} → mine ≡ set no_marks (owner_at owners w.edge) 1
+      pub more_tied : {mine : List ℕ} → mine ≡ set no_marks (owner_at owners f) 1
           → {r : Own} → r ≡ own_all room owners (firsts_of owners mine (tied_numbers o dir w.t (map (edge_at k floats words) (part from to words)))) marks s → r ≡ own_all room owners more marks s
       more_tied {mine} h₁ {r} h₂ =
           h₂
           ∙ ap (λ (l : List ℕ). own_all room owners (firsts_of owners l (tied_numbers o dir w.t (map (edge_at k floats words) (part from to words)))) marks s) h₁
-          ∙ ap (λ (l : List LocalEdge). own_all room owners (firsts_of owners (set no_marks (owner_at owners w.edge) 1) (tied_numbers o dir w.t l)) marks s) (tested_is k x floats words o angle dir max W)
-          ∙ ap (λ (l : List ℕ). own_all room owners l marks s) (sym (further_hit index owners o angle dir max on w.t w.edge hit))
+          ∙ ap (λ (l : List LocalEdge). own_all room owners (firsts_of owners (set no_marks (owner_at owners f) 1) (tied_numbers o dir w.t l)) marks s) (tested_is k x floats words o angle dir max W)
+          ∙ ap (λ (l : List ℕ). own_all room owners l marks s) (sym (further_hit index owners o angle dir max on w.t f hit))
 
   -- the further ones, and then the edge
   module _ (e : ℕ) where

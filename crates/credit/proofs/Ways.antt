@@ -3,10 +3,11 @@ use mathlib.Core.Path.{◌≡◌, refl, sym, ap, ◌∙◌, subst}
 use mathlib.Core.Logic.{⊎_elim}
 use mathlib.Core.Bool.{Bool, true, false}
 use mathlib.Core.List.{List, [], ◌∷◌, ◌++◌, map}
-use Prim.Native.Nat.{ℕ, zero, suc, ◌+◌, ◌≤◌, ◌<◌, min}
+use Prim.Native.Nat.{ℕ, zero, suc, ◌+◌, ◌-◌, ◌≤◌, ◌<◌, min}
 use native.Mathlib.Nat.{not-suc-le-zero, le_of_suc-le-suc}
 use native.Mathlib.Omega.{arith}
-use lib.ListN.{length, get_or, set, get_or-eq_default}
+use lib.Seq.{take_all}
+use lib.ListN.{length, get_or, set, drop, get_or-eq_default, drop_of_length-le, length-drop}
 use lib.Dec.{eqb}
 use lib.Ieee.{Float}
 use Rattle.lists.specs.Lists.{cons_if, filter}
@@ -19,7 +20,8 @@ use Rattle.room.specs.declared.Rooms.{Rooms}
 use Rattle.room.specs.declared.LocalEdge.{LocalEdge}
 use Rattle.room.specs.Records.{edge_at}
 use Rattle.index.specs.Casting.{ties_at}
-use Rattle.index.proofs.Walking.{cut_here, cut_none}
+use Rattle.lists.proofs.Parts.{part_rest, part_none, drop_here}
+use Rattle.index.proofs.Walking.{cut_none}
 use Rattle.outline.specs.declared.Trace.{Trace}
 use Rattle.outline.specs.Outline.{Own, owned, own_of, Room, Grown}
 use Rattle.outline.proofs.Ways.{own_over, own_add, own_full, grown_over, grown_add, grown_full}
@@ -77,10 +79,28 @@ module _ (k : Rooms) (floats : List Float) (words owners : List ℕ) (o dir : Ve
           ∙ ap (λ (y : List ℕ). own_all room owners (firsts_of owners y l) (own_of room owners f.edge marks s).marks (own_of room owners f.edge marks s).at) v
           ∙ rw (tie_so ∙ h, free_is ∙ e)
 
+-- ---- the edges that are gone through: the words at these places, as far as there are any
+pub tied_is : (from to : ℕ) (l : List ℕ) {a b : ℕ} → b ≡ min to (length l) → a ≡ min from b → part a b l ≡ part from to l
+tied_is from to l {a} {b} hb ha = ⊎_elim some none (lt_or_le from b)
+  where
+    some : from < b → part a b l ≡ part from to l
+    some h =
+        let e : a ≡ from = omega arith in
+        rw e (⊎_elim
+        (λ (g : to < length l). let f : b ≡ to = omega arith in ap (λ (q : ℕ). part from q l) f)
+        (λ (g : length l ≤ to).
+        let f : b ≡ length l = omega arith in
+        let n : length (drop from l) ≤ to - from = simp length-drop (omega arith) in
+        ap (λ (q : ℕ). part from q l) f ∙ part_rest from l ∙ sym (take_all (to - from) (drop from l) n))
+        (lt_or_le to (length l)))
+
+    none : b ≤ from → part a b l ≡ part from to l
+    none h = part_none a b l (omega arith) ∙ sym (cut_none from to l (omega arith))
+
 -- ---- one turn
-module _ (k : Rooms) (floats : List Float) (words owners : List ℕ) (to : ℕ) (o dir : Vec2) (t : Float) where
+module _ (k : Rooms) (floats : List Float) (words owners tied : List ℕ) (o dir : Vec2) (t : Float) where
   abbrev left_of : ℕ → List ℕ
-  left_of j = tied_numbers o dir t (map (edge_at k floats words) (part j to words))
+  left_of j = tied_numbers o dir t (map (edge_at k floats words) (drop j tied))
 
   left_more : (e : LocalEdge) (l : List LocalEdge) → tied_numbers o dir t (e ∷ l) ≡ cons_if (ties_at nano o dir t e) e.edge (tied_numbers o dir t l)
   unfolding tied_numbers
@@ -90,23 +110,23 @@ module _ (k : Rooms) (floats : List Float) (words owners : List ℕ) (to : ℕ) 
       by true m = refl
       by false m = refl
 
-  left_here : (j : ℕ) → j < to → j < length words → left_of j ≡ cons_if (ties_at nano o dir t (edge_at k floats words (get_or words j 0))) (edge_at k floats words (get_or words j 0)).edge (left_of (j + 1))
-  left_here j h g = ap (λ (l : List ℕ). tied_numbers o dir t (map (edge_at k floats words) l)) (cut_here j to words 0 h g) ∙ left_more (edge_at k floats words (get_or words j 0)) (map (edge_at k floats words) (part (j + 1) to words))
+  left_here : (j : ℕ) → j < length tied → left_of j ≡ cons_if (ties_at nano o dir t (edge_at k floats words (get_or tied j 0))) (edge_at k floats words (get_or tied j 0)).edge (left_of (j + 1))
+  left_here j h = ap (λ (l : List ℕ). tied_numbers o dir t (map (edge_at k floats words) l)) (drop_here tied j 0 h) ∙ left_more (edge_at k floats words (get_or tied j 0)) (map (edge_at k floats words) (drop (j + 1) tied))
 
-  left_none : (j : ℕ) → min to (length words) ≤ j → left_of j ≡ []
+  left_none : (j : ℕ) → length tied ≤ j → left_of j ≡ []
   unfolding tied_numbers
-  left_none j h = rw (cut_none j to words h)
+  left_none j h = rw (drop_of_length-le tied h)
 
   module _ (room : ℕ) (all : Own) where
-    pub turn : (j i : ℕ) → j < to → j < length words → i ≡ get_or words j 0 → (mine marks : List ℕ) (s : Trace) → own_all room owners (firsts_of owners mine (left_of j)) marks s ≡ all
+    pub turn : (j i : ℕ) → j < length tied → i ≡ get_or tied j 0 → (mine marks : List ℕ) (s : Trace) → own_all room owners (firsts_of owners mine (left_of j)) marks s ≡ all
         → (mine' marks' : List ℕ) (r : Trace) → Goes k floats words owners o dir t i room marks mine s mine' marks' r → own_all room owners (firsts_of owners mine' (left_of (j + 1))) marks' r ≡ all
-    turn j i h g hi mine marks s inv mine' marks' r goes =
+    turn j i h hi mine marks s inv mine' marks' r goes =
         goes (left_of (j + 1))
         ∙ ap (λ (n : ℕ). own_all room owners (firsts_of owners mine (cons_if (ties_at nano o dir t (edge_at k floats words n)) (edge_at k floats words n).edge (left_of (j + 1)))) marks s) hi
-        ∙ ap (λ (l : List ℕ). own_all room owners (firsts_of owners mine l) marks s) (sym (left_here j h g))
+        ∙ ap (λ (l : List ℕ). own_all room owners (firsts_of owners mine l) marks s) (sym (left_here j h))
         ∙ inv
 
-    pub turned : (j : ℕ) (mine marks : List ℕ) (s : Trace) → min to (length words) ≤ j → own_all room owners (firsts_of owners mine (left_of j)) marks s ≡ all → owned marks s ≡ all
+    pub turned : (j : ℕ) (mine marks : List ℕ) (s : Trace) → length tied ≤ j → own_all room owners (firsts_of owners mine (left_of j)) marks s ≡ all → owned marks s ≡ all
     turned j mine marks s h inv = sym (ap (λ (l : List ℕ). own_all room owners (firsts_of owners mine l) marks s) (left_none j h)) ∙ inv
 
 -- ---- the counts

@@ -1,18 +1,17 @@
 -- Who is credited for a hit: the entries of the Rust's `owners` (`visibility.rs`, lines 438 and 674) in both modes. In mode 0 one for the edge that the cast
 -- answered. In the other, document 02, Q-3: "the outline should credit every polygon owning a tested edge at that distance, one owner entry each, wherever the
 -- Rust's mode credits the cast's edge". Definitions only.
-use Rattle.std.specs.Prelude.{◌≡◌, false, cond, List, [], ◌∷◌, ◌++◌, map, ℕ, ◌+◌, ◌≤◌, eqb, get_or, set, replicate, Float}
+use Rattle.std.specs.Prelude.{◌≡◌, false, cond, List, [], ◌∷◌, ◌++◌, map, ℕ, ◌+◌, ◌≤◌, eqb, get_or, set, replicate, Float, None, Option, Some}
 use Rattle.lists.specs.Lists.{filter}
 use Rattle.geom.specs.Constants.{nano}
 use Rattle.geom.specs.declared.Vec2.{Vec2}
-use Rattle.site.specs.declared.Cast.{Cast}
-use Rattle.site.specs.declared.Cast.TheVariants.{Hit, Miss}
 use Rattle.site.specs.Tables.{owner_at}
 use Rattle.room.specs.declared.LocalEdge.{LocalEdge}
 use Rattle.index.specs.Angular.{Index}
 use Rattle.index.specs.Casting.{cast_of, ties_at, tested_in}
 use Rattle.outline.specs.declared.Trace.{Trace}
 use Rattle.outline.specs.Outline.{Own, owned, own_of, Room}
+use Rattle.site.specs.declared.RayHit.{RayHit}
 
 -- ---- one for each owner
 -- the edges of the list whose owner has no mark, the first of each owner: an owner is marked with its first edge. One past the marks counts as marked
@@ -34,9 +33,9 @@ unfolding ties_at
 tied_numbers o dir t l = map (λ (e : LocalEdge). e.edge) (filter (ties_at nano o dir t) l)
 
 -- beside the edge that the cast answers: for each further owner of the tied edges, the first of its edges that was tested
-abbrev pub further_by : Index → List ℕ → Vec2 → Float → Vec2 → Float → Cast → List ℕ
-further_by x owners o angle dir max (Hit t f) = firsts_of owners (set no_marks (owner_at owners f) 1) (tied_numbers o dir t (tested_in x o angle dir max))
-further_by x owners o angle dir max Miss = []
+abbrev pub further_by : Index → List ℕ → Vec2 → Float → Vec2 → Float → (Option RayHit) → List ℕ
+further_by x owners o angle dir max (Some h) = firsts_of owners (set no_marks (owner_at owners h.edge) 1) (tied_numbers o dir h.t (tested_in x o angle dir max))
+further_by x owners o angle dir max None = []
 
 -- of the cast from o at an angle. In the Rust's mode there are none
 unfoldable pub further_of : Index → List ℕ → Vec2 → Float → Vec2 → Float → List ℕ

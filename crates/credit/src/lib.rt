@@ -17,7 +17,6 @@ ghost use Rattle.credit.specs.Credit.{firsts_of, tied_numbers, further_of, credi
 
 use geom::Vec2;
 use index::AngularIndex;
-use lists::wide;
 use outline::Trace;
 use room::Rooms;
 
@@ -25,10 +24,7 @@ use room::Rooms;
 fn is_free(marks: &[u8], p: usize) -> bool
     ensures { result ≡ eqb (get_or marks.now p 1) 0 }
 {
-    if p < marks.len() {
-        return marks[p] == 0;
-    }
-    false
+    p < marks.len() && marks[p] == 0
 }
 
 // Credits the owner of the edge i, where the ray meets that at exactly the distance t and `mine` has no mark of the owner.
@@ -54,11 +50,11 @@ fn own_one(
         return s;
     }
     let e = index::number_at(k, words, i);
-    let p = wide(site::owner_at(owners, wide(e)));
+    let p = site::owner_at(owners, e as usize) as usize;
     if !is_free(&*mine, p) {
         return s;
     }
-    lists::put8(mine, p, 1);
+    lists::put(mine, p, 1);
     outline::own(k.owners, owners, marks, s, e)
 }
 
@@ -81,11 +77,10 @@ fn own_tied(
     ensures { owned marks.new result ≡ own_all k.owners owners.now
         (firsts_of owners.now mine.old (tied_numbers o dir t (map (edge_at k floats.now words.now) (part from to words.now)))) marks.old s }
 {
-    let end = lists::least(to, words.len());
+    let end = to.min(words.len());
+    let tied = &words[from.min(end)..end];
     let mut r = s;
-    let mut j = from;
-    while j < end {
-        let i = words[j];
+    for i in tied {
         r = own_one(
             k,
             floats,
@@ -96,10 +91,9 @@ fn own_tied(
             o,
             dir,
             t,
-            i,
+            *i,
             r,
         );
-        j += 1;
     }
     r
 }
@@ -127,14 +121,14 @@ pub fn further(
     }
     let w = index::walk_at(1e-9, k, x, floats, words, o, angle, dir, max);
     let b = w.best;
-    if !b.found {
+    let Some(edge) = b.edge else {
         return s;
-    }
+    };
     if !b.tied {
         return s;
     }
     let mut mine = [0u8; 4096];
-    lists::put8(&mut mine, wide(site::owner_at(owners, wide(b.edge))), 1);
+    lists::put(&mut mine, site::owner_at(owners, edge as usize) as usize, 1);
     own_tied(
         k, floats, words, owners, marks, &mut mine, w.from, w.to, o, dir, b.t, s,
     )

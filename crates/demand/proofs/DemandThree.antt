@@ -8,6 +8,7 @@
 -- cast returned is listed. `every_tied_id`, `every_tied_owner`: the same of ties (document 02, Q-3), of edges that a cast tested at exactly the distance that it answered.
 -- `few_events`, `few_rays`: E is at most 2 F + 2, and S at most 2 E + 2. Beside it `never_six`, `never_six_plain` and `never_six_outline`: no question and no outline of such a
 -- site is refused as 6. Assumes nothing.
+use Rattle.std.proofs.Common.{None, Ok, Option}
 use mathlib.Core.Path.{◌≡◌, ◌∙◌, sym, subst}
 use mathlib.Core.Bool.{true, false}
 use mathlib.Core.List.{List}
@@ -22,22 +23,16 @@ use Rattle.site.specs.Domain.{box_in_domain, load_box_of, load_point_of}
 use Rattle.site.specs.Soundness.{Sound}
 use Rattle.site.proofs.SoundLaws.{sound}
 use Rattle.site.proofs.PlainLaws.{sound_plain_lem}
-use Rattle.grid.specs.Numbers.{listed_status}
 use Rattle.near.specs.Outcome.{plain_of}
 use Rattle.near.proofs.Refusing.{plain_exactly}
 use Rattle.cone.specs.declared.ViewCone.{ViewCone}
 use Rattle.room.specs.declared.Rooms.{Rooms}
-use Rattle.stages.specs.declared.Visibility.TheVariants.{Seen}
 use Rattle.cone.specs.Domain.{load_cone_of}
 use Rattle.visibility.specs.Asked.{admit_of}
 use Rattle.view.specs.Outcome.{Lent, lent}
 use Rattle.visibility.specs.Outcome.{outcome}
 use Rattle.lists.specs.Members.{In}
 use Rattle.geom.specs.declared.Vec2.{Vec2}
-use Rattle.grid.specs.declared.Listing.TheVariants as listing
-use Rattle.site.specs.declared.Cast.{Cast}
-use Rattle.site.specs.declared.Cast.TheVariants.{Hit}
-use Rattle.sight.specs.declared.Whose.TheVariants.{Nobody}
 use Rattle.sight.specs.Holding.{polygon_at_of}
 use Rattle.cone.specs.Cone.{view_of, aabb_of}
 use Rattle.room.specs.declared.LocalEdge.{LocalEdge}
@@ -46,18 +41,15 @@ use Rattle.stages.specs.declared.Shown.{Shown}
 use Rattle.view.specs.Post.{is_empty}
 use native.Mathlib.Nat.{le_trans, le_of_eq}
 use Rattle.build.specs.Outcome as building
-use Rattle.build.specs.declared.Made.TheVariants as made
 use Rattle.build.proofs.BuiltSound.{built_sound}
 use Rattle.build.proofs.BuiltIndex.{built_query}
 use Rattle.random.specs.Draws.{points_of, lens_of}
 use Rattle.random.proofs.RandomSound.{random_built}
-use Rattle.scene.specs.Answers.{cast_ray_of}
-use Rattle.scene.specs.declared.Look.TheVariants as look
+use Rattle.scene.specs.Answers.{seen, cast_ray_of}
 use Rattle.scene.proofs.NeverSix.{NeverSix, not_six, sound_never_six}
 use Rattle.scene.proofs.Seen.{without_edge, seen_counted, seen_once, ray_modes}
 use Rattle.visibility.proofs.Admitting.{admitted_marked}
 use Rattle.demand.proofs.Calls.{calls_kept}
-use Rattle.visibility.specs.Numbers.{status_of}
 use Rattle.demand.proofs.RefusedWhen.{outline_exactly}
 use Rattle.demand.proofs.Outlines.{inner_is, outline_holds}
 use Rattle.demand.proofs.Engines.{Marked, marked, let_through, near_outcome, lists_near, listed_near, lists_by, engine_is, near_lists}
@@ -65,6 +57,10 @@ use Rattle.demand.specs.Calls.{Stamps, begun, lent_with, Call, after_all}
 use Rattle.demand.specs.Sweeps.{inner_of, Sweep, sweep_in, samples_in, refined_in, tied_in, CastReturned, CastTested, CountsOf, OwnsFacing}
 use Rattle.demand.specs.Demands.{BuiltHere, BoxLists, RayEnters, by_new, by_random}
 use Rattle.demand.specs.Engines.{Engine, near_by, near_in, ListsNear}
+use Rattle.grid.specs.Query.{counted}
+use Rattle.site.specs.Hits.{hit_at}
+use Rattle.site.specs.declared.RayHit.{RayHit}
+use Rattle.refusal.specs.Numbers.{status_of}
 
 -- either way it is building that made it
 record Made (s : Site) (t : Tables) : Type 0 where
@@ -73,7 +69,7 @@ record Made (s : Site) (t : Tables) : Type 0 where
   pub given : List Float
   pub lens : List ℕ
   pub lent : Tables
-  pub does : building.Does (building.outcome width height given lens lent) (made.Site s) t
+  pub does : building.Does (building.outcome width height given lens lent) (Ok s) t
 
 made_so : (s : Site) (t : Tables) → BuiltHere s t → Made s t
 made_so s t (by_new width height given lens lent d) = record { width = width; height = height; given = given; lens = lens; lent = lent; does = d }
@@ -91,7 +87,7 @@ module _ (s : Site) (t : Tables) (built : BuiltHere s t) where
     engine e b room i l = let w = made_so s t built in engine_is w.width w.height w.given w.lens w.lent t s w.does b now room i e l (calls_kept n calls).fresh
 
     -- DOCUMENT 02, Q-6, said once of both engines: what is not refused is the list by first shared cell and then id, zeros after it, and its count of entries
-    pub both_engines : (e : Engine) (b : Aabb) (room : List ℕ) (m count : ℕ) → (near_by e s t b now room).answer ≡ listing.Listed m count → ListsNear s t b (length room) (near_by e s t b now room)
+    pub both_engines : (e : Engine) (b : Aabb) (room : List ℕ) (m count : ℕ) → (near_by e s t b now room).answer ≡ counted m count → ListsNear s t b (length room) (near_by e s t b now room)
     both_engines e b room m count a =
         let i = let_through e s t b now room m count a in
         lists_near s t b (length room) (near_by e s t b now room) (engine e b room i.0 i.1) m count a
@@ -104,7 +100,7 @@ module _ (s : Site) (t : Tables) (built : BuiltHere s t) where
 
     -- "Every box query not refused lists each polygon whose cells meet the box's cells, once, and no other, and its reported count is exactly the entries
     -- those cells hold": of either engine
-    pub every_box_query : (e : Engine) (b : Aabb) (room : List ℕ) (m count : ℕ) → (near_by e s t b now room).answer ≡ listing.Listed m count
+    pub every_box_query : (e : Engine) (b : Aabb) (room : List ℕ) (m count : ℕ) → (near_by e s t b now room).answer ≡ counted m count
         → BoxLists s t (load_box_of b) (take m (near_by e s t b now room).ids) count
     every_box_query e b room m count a =
         let w = made_so s t built in
@@ -117,9 +113,9 @@ module _ (s : Site) (t : Tables) (built : BuiltHere s t) where
       abbrev inner : query.Outcome
       inner = inner_of s t c k (lent_with now floats words outline visible)
 
-      pub every_inner_query : admit_of s t c mode (length now.marks) ≡ 0 → is_empty (view_of (load_cone_of c)) ≡ false
-          → polygon_at_of s.grid t.points t.boxes t.polygons t.starts t.items (load_cone_of c).origin ≡ Nobody
-          → (m count : ℕ) → inner.answer ≡ listing.Listed m count → BoxLists s t (aabb_of (load_cone_of c)) (take m inner.ids) count
+      pub every_inner_query : admit_of s t c mode (length now.marks) ≡ Ok tt → is_empty (view_of (load_cone_of c)) ≡ false
+          → polygon_at_of s.grid t.points t.boxes t.polygons t.starts t.items (load_cone_of c).origin ≡ None
+          → (m count : ℕ) → inner.answer ≡ counted m count → BoxLists s t (aabb_of (load_cone_of c)) (take m inner.ids) count
       every_inner_query z v p m count e =
           let w = made_so s t built in
           let room = min k.ids (length words) in
@@ -130,7 +126,7 @@ module _ (s : Site) (t : Tables) (built : BuiltHere s t) where
   -- Q-6 again: "where neither refuses, its list equals the grid's, order included, and its count of entries equals the count the grid reports"; each in room of its own and
   -- after calls of its own
   pub same_list : (n n' : ℕ) (calls calls' : List Call) (e f : Engine) (b : Aabb) (room room' : List ℕ) (m count m' count' : ℕ)
-      → (near_by e s t b (after_all calls (begun n)) room).answer ≡ listing.Listed m count → (near_by f s t b (after_all calls' (begun n')) room').answer ≡ listing.Listed m' count'
+      → (near_by e s t b (after_all calls (begun n)) room).answer ≡ counted m count → (near_by f s t b (after_all calls' (begun n')) room').answer ≡ counted m' count'
       → (take m (near_by e s t b (after_all calls (begun n)) room).ids ≡ take m' (near_by f s t b (after_all calls' (begun n')) room').ids) × (count ≡ count')
   same_list n n' calls calls' e f b room room' m count m' count' p q =
       let x = listed_near s t b (length room) (near_by e s t b (after_all calls (begun n)) room) m count p (both_engines n calls e b room m count p) in
@@ -138,7 +134,7 @@ module _ (s : Site) (t : Tables) (built : BuiltHere s t) where
       (x.0 ∙ sym y.0, x.1 ∙ sym y.1)
 
   -- ---- RAYS. "A single ray enters no cell twice and at most columns plus rows less one"
-  pub single_ray : (o v : Vec2) (len : Float) (mode : ℕ) (hit : Cast) (count : ℕ) → cast_ray_of s t o v len mode ≡ look.Seen hit count → RayEnters s t o v len mode count
+  pub single_ray : (o v : Vec2) (len : Float) (mode : ℕ) (hit : Option RayHit) (count : ℕ) → cast_ray_of s t o v len mode ≡ seen hit count → RayEnters s t o v len mode count
   single_ray o v len mode hit count e =
       let n = seen_counted s t o v len mode hit count e in
       let w = seen_once s t o v len mode in
@@ -149,7 +145,7 @@ module _ (s : Site) (t : Tables) (built : BuiltHere s t) where
   both_ray_modes o v len = ray_modes s t o v len
 
   -- ---- OUTLINES. A call that is not refused, whatever it is lent
-  module _ (c : ViewCone) (tolerance : Float) (mode : ℕ) (k : Rooms) (l : Lent) (x : Shown) (seen : (outcome s t c tolerance mode k l).answer ≡ Seen x) where
+  module _ (c : ViewCone) (tolerance : Float) (mode : ℕ) (k : Rooms) (l : Lent) (x : Shown) (seen : (outcome s t c tolerance mode k l).answer ≡ Ok x) where
     -- the visible ids that it lists, and its own sweep
     abbrev pub visible_ids : List ℕ
     visible_ids = take x.visible (outcome s t c tolerance mode k l).left.visible
@@ -162,7 +158,7 @@ module _ (s : Site) (t : Tables) (built : BuiltHere s t) where
     every_visible_id = (outline_holds s t c tolerance mode k l x seen).returned
 
     -- .. and the owner of every edge that a sample ray's cast returned is listed; ..
-    pub every_sample_owner : (a : Sample) → In a (samples_in own_sweep) → (u : Float) (e : ℕ) → a.hit ≡ Hit u e → In (owner_at t.owners e) visible_ids
+    pub every_sample_owner : (a : Sample) → In a (samples_in own_sweep) → (u : Float) (e : ℕ) → a.hit ≡ hit_at u e → In (owner_at t.owners e) visible_ids
     every_sample_owner = (outline_holds s t c tolerance mode k l x seen).listed
 
     -- with ties credited (document 02, Q-3), and in the Rust's mode too: "in place of demand 3's edge that a cast returned, each visible id owns a front edge that a cast
@@ -171,7 +167,7 @@ module _ (s : Site) (t : Tables) (built : BuiltHere s t) where
     every_tied_id = (outline_holds s t c tolerance mode k l x seen).owns
 
     -- .. and every polygon owning an edge so tested by a sample ray's cast is listed": in mode 1
-    pub every_tied_owner : mode ≡ 1 → (a : Sample) → In a (samples_in own_sweep) → (u : Float) (e : ℕ) → a.hit ≡ Hit u e
+    pub every_tied_owner : mode ≡ 1 → (a : Sample) → In a (samples_in own_sweep) → (u : Float) (e : ℕ) → a.hit ≡ hit_at u e
         → (y : LocalEdge) → In y (tied_in own_sweep a.angle u) → In (owner_at t.owners y.edge) visible_ids
     every_tied_owner = (outline_holds s t c tolerance mode k l x seen).tied
 
@@ -200,7 +196,7 @@ module _ (s : Site) (t : Tables) (built : BuiltHere s t) where
   pub never_six : NeverSix s t
   never_six = sound_never_six s t tables_sound
 
-  pub never_six_plain : (b : Aabb) (ids : List ℕ) → listed_status (plain_of s t.points t.polygons b ids).answer ≡ 6 → ⊥
+  pub never_six_plain : (b : Aabb) (ids : List ℕ) → status_of (plain_of s t.points t.polygons b ids).answer ≡ 6 → ⊥
   never_six_plain b ids e = (plain_exactly s t.points t.polygons b ids).only 6 e (sound_plain_lem s t tables_sound)
 
   pub never_six_outline : (c : ViewCone) (tolerance : Float) (mode : ℕ) (k : Rooms) (l : Lent) → status_of (outcome s t c tolerance mode k l).answer ≡ 6 → ⊥

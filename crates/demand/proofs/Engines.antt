@@ -1,12 +1,12 @@
 -- BOTH ENGINES OVER A SITE THAT BUILDING MADE, with fresh stamps and a box in the domain: the outcome is one and the same, whichever engine is asked and whatever room is
 -- lent (`engine_is`): the list by first shared cell and then id with its count of entries, or the refusal as 8. The list and the count keep demand 3 (`near_lists`).
 -- Document 02, Q-6. Assumes nothing.
+use Rattle.std.proofs.Common.{Err, Ok}
 use mathlib.Core.Path.{◌≡◌, sym, ap, subst, ◌∙◌}
 use mathlib.Core.Logic.{⊎_elim}
 use mathlib.Core.Bool.{true, false}
 use mathlib.Core.List.{List}
 use Prim.Native.Nat.{ℕ, ◌*◌, ◌≤◌, ◌<◌}
-use native.Mathlib.Omega.{arith}
 use lib.Dec.{ltb}
 use lib.ListN.{length, take}
 use lib.Seq.{take-append_seam}
@@ -15,11 +15,9 @@ use Rattle.lists.specs.Parts.{padded}
 use Rattle.lists.proofs.Cases.{by_test, lt_or_le}
 use Rattle.geom.specs.declared.Aabb.{Aabb}
 use Rattle.grid.specs.Range.{range_of}
-use Rattle.grid.specs.declared.Listing.TheVariants as listing
 use Rattle.grid.specs.Stamps.{Fresh}
 use Rattle.grid.specs.Query as query
-use Rattle.grid.specs.Numbers.{listed_status}
-use Rattle.tables.specs.Tables.{span_of, held_in}
+use Rattle.tables.specs.Tables.{span_of}
 use Rattle.tables.proofs.Cells.{range_of_lem}
 use Rattle.tables.proofs.Whole.{fitted}
 use Rattle.tables.proofs.BuiltQuery.{Demand}
@@ -30,7 +28,6 @@ use Rattle.site.specs.Domain.{box_in_domain, load_box_of}
 use Rattle.site.proofs.SoundLaws as laws
 use Rattle.site.proofs.PlainLaws.{plain_tested, sound_plain_lem}
 use Rattle.build.specs.Outcome.{outcome, Does, span_at}
-use Rattle.build.specs.declared.Made.TheVariants as made
 use Rattle.build.proofs.BuiltSound.{built_sound}
 use Rattle.build.proofs.BuiltIndex.{built_index}
 use Rattle.scene.proofs.Near.{asks}
@@ -43,6 +40,10 @@ use Rattle.near.proofs.Refusing.{plain_exactly}
 use Rattle.demand.specs.Calls.{Stamps}
 use Rattle.demand.specs.Demands.{BoxLists}
 use Rattle.demand.specs.Engines.{Engine, tables, plain, near_by, near_in, entries_near, ListsNear}
+use Rattle.refusal.specs.declared.Refusal.TheVariants.{NoListRoom}
+use Rattle.grid.specs.Query.{counted}
+use Rattle.grid.proofs.Numbers.{counted_same}
+use Rattle.refusal.specs.Numbers.{status_of}
 
 -- ---- what is not refused was let through
 -- a mark for each polygon, where marks are lent
@@ -54,11 +55,11 @@ pub marked : (e : Engine) (s : Site) (k : Stamps) → s.polygons ≤ length k.ma
 marked tables s k l = l
 marked plain s k l = tt
 
-pub let_through : (e : Engine) (s : Site) (t : Tables) (b : Aabb) (k : Stamps) (ids : List ℕ) (m count : ℕ) → (near_by e s t b k ids).answer ≡ listing.Listed m count
+pub let_through : (e : Engine) (s : Site) (t : Tables) (b : Aabb) (k : Stamps) (ids : List ℕ) (m count : ℕ) → (near_by e s t b k ids).answer ≡ counted m count
     → (box_in_domain b ≡ true) × Marked e s k
 unfolding near_by
-let_through tables s t b k ids m count a = let r = (polygons_near_exactly s t b k.marks k.epoch ids).only 0 (ap listed_status a) in (r.1.0, r.1.1.0)
-let_through plain s t b k ids m count a = (((plain_exactly s t.points t.polygons b ids).only 0 (ap listed_status a)).1.0, tt)
+let_through tables s t b k ids m count a = let r = (polygons_near_exactly s t b k.marks k.epoch ids).only 0 (ap status_of a) in (r.1.0, r.1.1.0)
+let_through plain s t b k ids m count a = (((plain_exactly s t.points t.polygons b ids).only 0 (ap status_of a)).1.0, tt)
 
 -- ---- the outcome in room for k ids
 abbrev pub near_outcome : Site → Tables → Aabb → ℕ → Outcome
@@ -69,42 +70,38 @@ pair : (o p : Outcome) → o.answer ≡ p.answer → o.ids ≡ p.ids → o ≡ p
 pair o p a b = rw (a, b)
 
 -- where it answers, it lists what is near ..
-pub lists_near : (s : Site) (t : Tables) (b : Aabb) (k : ℕ) (o : Outcome) → o ≡ near_outcome s t b k → (m count : ℕ) → o.answer ≡ listing.Listed m count → ListsNear s t b k o
+pub lists_near : (s : Site) (t : Tables) (b : Aabb) (k : ℕ) (o : Outcome) → o ≡ near_outcome s t b k → (m count : ℕ) → o.answer ≡ counted m count → ListsNear s t b k o
 lists_near s t b k o e m count a = ⊎_elim over fits (by_test (ltb k (length (near_in s t b))))
   where
     over : ltb k (length (near_in s t b)) ≡ true → ListsNear s t b k o
-    over l = let r : o.answer ≡ listing.Refused 8 = ap (λ (x : Outcome). x.answer) e ∙ rw l in let z : ◌≡◌ {A = ℕ} 0 1 = cc in absurd (omega arith)
+    over l = let r : o.answer ≡ Err NoListRoom = ap (λ (x : Outcome). x.answer) e ∙ rw l in cc
 
     fits : ltb k (length (near_in s t b)) ≡ false → ListsNear s t b k o
     fits l = record { answer_is = ap (λ (x : Outcome). x.answer) e ∙ rw l; ids_are = ap (λ (x : Outcome). x.ids) e ∙ rw l }
 
 -- .. in front of the lent list
-pub listed_near : (s : Site) (t : Tables) (b : Aabb) (k : ℕ) (o : Outcome) (m count : ℕ) → o.answer ≡ listing.Listed m count → ListsNear s t b k o
+pub listed_near : (s : Site) (t : Tables) (b : Aabb) (k : ℕ) (o : Outcome) (m count : ℕ) → o.answer ≡ counted m count → ListsNear s t b k o
     → (take m o.ids ≡ near_in s t b) × (count ≡ entries_near s t b)
 listed_near s t b k o m count a l =
-    let q : o.answer ≡ listing.Listed (length (near_in s t b)) (entries_near s t b) = l.answer_is in
-    let n : m ≡ length (near_in s t b) = cc in
-    let c : count ≡ entries_near s t b = cc in
-    (ap (take m) l.ids_are ∙ ap (λ (i : ℕ). take i (padded 0 k (near_in s t b))) n ∙ take-append_seam (near_in s t b) _, c)
+    let q = counted_same (sym a ∙ l.answer_is) in
+    (ap (take m) l.ids_are ∙ ap (λ (i : ℕ). take i (padded 0 k (near_in s t b))) q.0 ∙ take-append_seam (near_in s t b) _, q.1)
 
 -- of a query that keeps the demand and is not refused
 pub lists_by : (s : Site) (t : Tables) (b : Aabb) (room : ℕ) (o : query.Outcome) → Demand s.grid (span_of s.grid t.boxes) s.polygons b room o
-    → (m count : ℕ) → o.answer ≡ listing.Listed m count → BoxLists s t b (take m o.ids) count
+    → (m count : ℕ) → o.answer ≡ counted m count → BoxLists s t b (take m o.ids) count
 lists_by s t b room o d m count e = ⊎_elim over fits (lt_or_le room (length d.found))
   where
     over : room < length d.found → BoxLists s t b (take m o.ids) count
-    over h = let q : o.answer ≡ listing.Refused 8 = (d.over h).0 in let z : ◌≡◌ {A = ℕ} 0 1 = cc in absurd (omega arith)
+    over h = let q : o.answer ≡ Err NoListRoom = (d.over h).0 in cc
 
     fits : length d.found ≤ room → BoxLists s t b (take m o.ids) count
     fits h =
-        let q : o.answer ≡ listing.Listed (length d.found) (held_in (span_of s.grid t.boxes) s.polygons s.grid.cols (range_of s.grid b)) = (d.fits h).0 in
-        let n : m ≡ length d.found = cc in
-        let c : count ≡ held_in (span_of s.grid t.boxes) s.polygons s.grid.cols (range_of s.grid b) = cc in
+        let q = counted_same (sym e ∙ (d.fits h).0) in
         let l : take m o.ids ≡ d.found =
-        ap (λ (x : List ℕ). take m x) (d.fits h).1 ∙ ap (λ (i : ℕ). take i (padded 0 room d.found)) n ∙ take-append_seam d.found _ in
-        subst (λ (x : List ℕ). BoxLists s t b x count) (sym l) (record { each = d.every; once = d.once; no_other = d.only; counted = c })
+        ap (λ (x : List ℕ). take m x) (d.fits h).1 ∙ ap (λ (i : ℕ). take i (padded 0 room d.found)) q.0 ∙ take-append_seam d.found _ in
+        subst (λ (x : List ℕ). BoxLists s t b x count) (sym l) (record { each = d.every; once = d.once; no_other = d.only; counted = q.1 })
 
-module _ (width height : Float) (given : List Float) (lens : List ℕ) (lent t : Tables) (s : Site) (d : Does (outcome width height given lens lent) (made.Site s) t) where
+module _ (width height : Float) (given : List Float) (lens : List ℕ) (lent t : Tables) (s : Site) (d : Does (outcome width height given lens lent) (Ok s) t) where
   module _ (b : Aabb) (k : Stamps) (ids : List ℕ) (i : box_in_domain b ≡ true) where
     sound : sound_of s t ≡ true
     sound = built_sound width height given lens lent t s d

@@ -1,10 +1,11 @@
--- DEMAND 3 OF AN OUTLINE, at the call: `outline_holds`. Of every call that answers `Seen`: each id listed owns an edge that faces the post and that a cast of this
+-- DEMAND 3 OF AN OUTLINE, at the call: `outline_holds`. Of every call that is not refused: each id listed owns an edge that faces the post and that a cast of this
 -- call's own sweep returned; the owner of every edge that a sample's cast returned is listed; and the counts keep their bounds. Assumes nothing.
+use Rattle.std.proofs.Common.{None, Err, Result, Ok}
 use mathlib.Core.Path.{◌≡◌, refl, ◌∙◌, sym, ap, subst}
 use mathlib.Core.Bool.{Bool, true, false, cond}
 use mathlib.Core.List.{List, [], ◌∷◌, map}
 use Prim.Native.Nat.{ℕ, ◌+◌, ◌*◌, ◌%◌, ◌≤◌, ◌<◌, min}
-use lib.Dec.{ltb, eqb}
+use lib.Dec.{ltb}
 use lib.ListN.{length, get_or, take, length-take, length-map}
 use lib.Ieee.{Float, lt, le}
 use Rattle.geom.specs.declared.Aabb.{Aabb}
@@ -16,15 +17,13 @@ use Rattle.cone.specs.declared.ViewCone.{ViewCone}
 use Rattle.room.specs.declared.Rooms.{Rooms}
 use Rattle.view.specs.declared.Plan.{Plan}
 use Rattle.view.specs.declared.Plan.TheVariants.{Empty, Inside, Query}
-use Rattle.stages.specs.declared.Visibility.TheVariants.{Refused, Seen}
 use Rattle.cone.specs.Domain.{load_cone_of, cone_in_domain}
 use Rattle.visibility.specs.Asked.{admit_of}
 use Rattle.view.specs.Post.{plan_of, is_empty}
-use Rattle.view.specs.Outcome.{Lent, out, look_of, seen_from_of, listed_by, planned, drawn_of, request_of, look_in}
-use Rattle.visibility.specs.Outcome.{outcome}
+use Rattle.view.specs.Outcome.{Lent, look_of, seen_from_of, listed_by, planned, drawn_of, request_of, look_in}
+use Rattle.visibility.specs.Outcome.{outcome_by, outcome}
 use mathlib.Core.Logic.{inr, inl, ⊎_elim}
 use native.Mathlib.Omega.{arith}
-use borrow.Author.Tests.{eqb-true}
 use lib.Seq.{take-append_seam, get_or-take}
 use Rattle.num.specs.Ops.{zero_f}
 use Rattle.lists.specs.Members.{In, AllBelow}
@@ -38,12 +37,9 @@ use Rattle.sorts.proofs.Merging.{length_sort}
 use Rattle.bounds.specs.Domain.{in_domain}
 use Rattle.geom.specs.declared.Vec2.{Vec2}
 use Rattle.grid.specs.declared.Listing.{Listing}
-use Rattle.grid.specs.declared.Listing.TheVariants as listing
-use Rattle.site.specs.declared.Cast.TheVariants.{Hit}
 use Rattle.site.specs.Soundness.{Sound}
 use Rattle.site.proofs.SoundLaws.{sound, end_below}
 use Rattle.build.proofs.Loading.{load_domain}
-use Rattle.sight.specs.declared.Whose.TheVariants.{Nobody}
 use Rattle.sight.specs.Holding.{polygon_at_of}
 use Rattle.cone.specs.declared.View.{View}
 use Rattle.cone.specs.Cone.{view_of, aabb_of, outline_of}
@@ -64,22 +60,24 @@ use Rattle.stages.proofs.Counts.{events_most, rays_most}
 use Rattle.stages.proofs.Demand.{run_casts, Tested, tested_listed, sample_front, visible_owns, rust_returned, samples_listed, ties_listed, front_faces}
 use Rattle.demand.proofs.Facing.{faces_below, edge_end}
 use Rattle.demand.specs.Sweeps.{inner_of, Sweep, still, sweeps, spotted_sweep, fanned_sweep, listed_sweep, planned_sweep, seen_sweep, sweep_in, samples_in, refined_in, tied_in, CastReturned, CastTested, CountsOf, OwnsFacing}
+use Rattle.refusal.specs.declared.Refusal.{Refusal}
+use Rattle.grid.specs.Query.{counted}
+use Rattle.site.specs.Hits.{hit_at}
 
 module _ (site : Site) (t : Tables) (c : ViewCone) (k : Rooms) (l : Lent) where
   -- where the view is not empty and the post lies in no polygon, it is the grid's query with the cone's box
-  pub inner_is : is_empty (view_of (load_cone_of c)) ≡ false → polygon_at_of site.grid t.points t.boxes t.polygons t.starts t.items (load_cone_of c).origin ≡ Nobody
+  pub inner_is : is_empty (view_of (load_cone_of c)) ≡ false → polygon_at_of site.grid t.points t.boxes t.polygons t.starts t.items (load_cone_of c).origin ≡ None
       → inner_of site t c k l ≡ query.outcome site.grid (aabb_of (load_cone_of c)) t.starts t.items l.marks l.epoch (min k.ids (length l.words))
   unfolding inner_of look_of
   inner_is e p = ap (λ (x : Plan). look_in x site t k l) (sym (plan_query site.grid t.points t.boxes t.polygons t.starts t.items (load_cone_of c) e (sym p) refl refl))
 
   -- it is the call's own: the stamps that a call leaves, unless it is refused before it, are those that the query leaves
-  left_by : (tolerance : Float) (mode n : ℕ) → n ≡ 0
-      → ((cond (eqb n 0) (seen_from_of site t (load_cone_of c) (load_of tolerance) mode k l) (out (Refused n) l)).left.marks ≡ (inner_of site t c k l).marks)
-      × ((cond (eqb n 0) (seen_from_of site t (load_cone_of c) (load_of tolerance) mode k l) (out (Refused n) l)).left.epoch ≡ (inner_of site t c k l).epoch)
+  left_by : (tolerance : Float) (mode : ℕ) (n : Result (Unit {0}) Refusal) → n ≡ Ok tt
+      → ((outcome_by n site t c tolerance mode k l).left.marks ≡ (inner_of site t c k l).marks) × ((outcome_by n site t c tolerance mode k l).left.epoch ≡ (inner_of site t c k l).epoch)
   unfolding seen_from_of inner_of
   left_by tolerance mode n z = rw z (refl, refl)
 
-  pub inner_left : (tolerance : Float) (mode : ℕ) → admit_of site t c mode (length l.marks) ≡ 0
+  pub inner_left : (tolerance : Float) (mode : ℕ) → admit_of site t c mode (length l.marks) ≡ Ok tt
       → ((outcome site t c tolerance mode k l).left.marks ≡ (inner_of site t c k l).marks) × ((outcome site t c tolerance mode k l).left.epoch ≡ (inner_of site t c k l).epoch)
   unfolding outcome
   inner_left tolerance mode z = left_by tolerance mode (admit_of site t c mode (length l.marks)) z
@@ -89,8 +87,8 @@ pub record OutlineHolds (site : Site) (t : Tables) (o : Vec2) (mode : ℕ) (w : 
   pub many : s.visible ≡ length ids
   pub owns : (id : ℕ) → In id ids → OwnsFacing site t o (CastTested w) id
   pub returned : mode ≡ 0 → (id : ℕ) → In id ids → OwnsFacing site t o (CastReturned w) id
-  pub listed : (a : Sample) → In a (samples_in w) → (u : Float) (e : ℕ) → a.hit ≡ Hit u e → In (owner_at t.owners e) ids
-  pub tied : mode ≡ 1 → (a : Sample) → In a (samples_in w) → (u : Float) (e : ℕ) → a.hit ≡ Hit u e → (y : LocalEdge) → In y (tied_in w a.angle u) → In (owner_at t.owners y.edge) ids
+  pub listed : (a : Sample) → In a (samples_in w) → (u : Float) (e : ℕ) → a.hit ≡ hit_at u e → In (owner_at t.owners e) ids
+  pub tied : mode ≡ 1 → (a : Sample) → In a (samples_in w) → (u : Float) (e : ℕ) → a.hit ≡ hit_at u e → (y : LocalEdge) → In y (tied_in w a.angle u) → In (owner_at t.owners y.edge) ids
   pub events_few : s.events ≤ 2 * s.front_edges + 2
   pub rays_few : s.rays_cast ≤ 2 * s.events + 2
   -- F and E are the lengths of the sweep's lists; the rays counted are those samples, and the casts of refining those angles
@@ -133,30 +131,27 @@ module _ (P : Drawing → Sweep → Type 0) (on_eight : (w : Sweep) → P eight 
         (λ _. touched g.touch (view_in q).full e w
         (either (events_over q.k (view_in q) g) d w (λ _. spotted_by g.candidates g.edges (spots_for (view_in q) g) h)))
 
-    listed_by_lem : (a : Listing) (boxes : List Float) (ids : List ℕ) → ((n read : ℕ) → a ≡ listing.Listed n read → P (swept_from q boxes (take n ids)) (sweep_from q boxes (take n ids)))
+    listed_by_lem : (a : Result Listing Refusal) (boxes : List Float) (ids : List ℕ) → ((n read : ℕ) → a ≡ counted n read → P (swept_from q boxes (take n ids)) (sweep_from q boxes (take n ids)))
         → P (listed_by a q boxes ids) (listed_sweep a q boxes ids)
     unfolding staged_of
-    listed_by_lem (listing.Listed n read) boxes ids h = fanned_by (fan_in q boxes (take n ids)) (h n read refl)
-    listed_by_lem (listing.Refused n) boxes ids h = on_eight (still [])
+    listed_by_lem (Ok a) boxes ids h = fanned_by (fan_in q boxes (take a.written ids)) (h a.written a.read refl)
+    listed_by_lem (Err r) boxes ids h = on_eight (still [])
 
-    planned_by : (p : Plan) (boxes : List Float) (a : Listing) (ids : List ℕ)
-        → ((b : Aabb) → p ≡ Query b → (n read : ℕ) → a ≡ listing.Listed n read → P (swept_from q boxes (take n ids)) (sweep_from q boxes (take n ids)))
+    planned_by : (p : Plan) (boxes : List Float) (a : Result Listing Refusal) (ids : List ℕ)
+        → ((b : Aabb) → p ≡ Query b → (n read : ℕ) → a ≡ counted n read → P (swept_from q boxes (take n ids)) (sweep_from q boxes (take n ids)))
         → P (planned p q boxes a ids) (planned_sweep p q boxes a ids)
     unfolding planned
     planned_by Empty boxes a ids h = on_plain false (view_in q).full
     planned_by Inside boxes a ids h = on_plain true (view_in q).full
     planned_by (Query b) boxes a ids h = listed_by_lem a boxes ids (h b refl)
 
-    drawn_by : (short : Bool) (p : Plan) (boxes : List Float) (a : Listing) (ids : List ℕ)
-        → ((b : Aabb) → p ≡ Query b → (n read : ℕ) → a ≡ listing.Listed n read → P (swept_from q boxes (take n ids)) (sweep_from q boxes (take n ids)))
+    drawn_by : (short : Bool) (p : Plan) (boxes : List Float) (a : Result Listing Refusal) (ids : List ℕ)
+        → ((b : Aabb) → p ≡ Query b → (n read : ℕ) → a ≡ counted n read → P (swept_from q boxes (take n ids)) (sweep_from q boxes (take n ids)))
         → P (drawn_of short p q boxes a ids) (planned_sweep p q boxes a ids)
     unfolding drawn_of
     drawn_by short p boxes a ids h = either short (planned p q boxes a ids) (planned_sweep p q boxes a ids) (λ _. planned_by p boxes a ids h)
 
 -- ---- the answers
-not_seen : {A : Type 0} {n : ℕ} {s : Shown} → Refused n ≡ Seen s → A
-not_seen e = let z : ◌≡◌ {A = ℕ} 0 1 = cc in absurd (omega arith)
-
 -- as many rays as samples
 rays_many : (v : View) (x : Index) (l : List Sample) → length (rays_cast v x l) ≡ length l
 unfolding rays_cast ordered_of
@@ -169,13 +164,13 @@ rays_many v x l = length-map (ordered_of l) (cast_ray v x) ∙ by (in_order (map
 module _ (site : Site) (t : Tables) (o : Vec2) (mode : ℕ) where
   -- what an answer with its list says
   abbrev Says : Drawing → Sweep → Type 0
-  Says d w = (s : Shown) → d.answer ≡ Seen s → OutlineHolds site t o mode w s d.ids
+  Says d w = (s : Shown) → d.answer ≡ Ok s → OutlineHolds site t o mode w s d.ids
 
-  told : {w : Sweep} {x s : Shown} {ids : List ℕ} → Seen x ≡ Seen s → OutlineHolds site t o mode w x ids → OutlineHolds site t o mode w s ids
+  told : {w : Sweep} {x s : Shown} {ids : List ℕ} → ◌≡◌ {A = Result Shown Refusal} (Ok x) (Ok s) → OutlineHolds site t o mode w x ids → OutlineHolds site t o mode w s ids
   told {w} {x} {s} {ids} e h = let z : x ≡ s = cc in subst (λ (y : Shown). OutlineHolds site t o mode w y ids) z h
 
   says_eight : (w : Sweep) → Says eight w
-  says_eight w s e = not_seen e
+  says_eight w s e = cc
 
   says_plain : (u v : Bool) → Says (plain u v) (still [])
   says_plain u v s e =
@@ -239,12 +234,12 @@ module _ (site : Site) (t : Tables) (S : Sound site t) (c : ViewCone) (O : point
     run_returned : (run_of q es sp).at.over ≡ false → mode ≡ 0 → (id : ℕ) → In id (marked_of (run_of q es sp).marks) → OwnsFacing site t c.origin (CastReturned (sweeps q es sp)) id
     run_returned h m id i = let v = visible_owns q es sp h id i in owns_by (CastReturned (sweeps q es sp)) id v.edge v.front v.owner v.listed v.number (rust_returned q es sp m id v)
 
-    run_listed : (run_of q es sp).at.over ≡ false → (a : Sample) → In a (rays_for q.mode (view_in q) es sp) → (u : Float) (e : ℕ) → a.hit ≡ Hit u e → In (owner_at t.owners e) (marked_of (run_of q es sp).marks)
+    run_listed : (run_of q es sp).at.over ≡ false → (a : Sample) → In a (rays_for q.mode (view_in q) es sp) → (u : Float) (e : ℕ) → a.hit ≡ hit_at u e → In (owner_at t.owners e) (marked_of (run_of q es sp).marks)
     run_listed h a i u e x =
         let (y, j, n) = sample_front q es sp a i u e x in
         samples_listed q es sp h a i u e x (subst (λ (m : ℕ). owner_at t.owners m < 4096) n (owner_few y j))
 
-    run_tied : (run_of q es sp).at.over ≡ false → mode ≡ 1 → (a : Sample) → In a (rays_for q.mode (view_in q) es sp) → (u : Float) (e : ℕ) → a.hit ≡ Hit u e
+    run_tied : (run_of q es sp).at.over ≡ false → mode ≡ 1 → (a : Sample) → In a (rays_for q.mode (view_in q) es sp) → (u : Float) (e : ℕ) → a.hit ≡ hit_at u e
         → (y : LocalEdge) → In y (tied_in (sweeps q es sp) a.angle u) → In (owner_at t.owners y.edge) (marked_of (run_of q es sp).marks)
     run_tied h m a i u e x y j =
         ties_listed q es sp h (λ z. let w : ◌≡◌ {A = ℕ} 0 1 = sym z ∙ m in absurd (omega arith)) a i u e x y j (owner_few y (tested_listed q es sp y (inr (a, i, u, e, x, j))))
@@ -268,7 +263,7 @@ module _ (site : Site) (t : Tables) (S : Sound site t) (c : ViewCone) (O : point
         })))
 
   -- the inner query lists polygons of the site
-  look_named : (b : Aabb) (n read i : ℕ) → (look_in (Query b) site t k l).answer ≡ listing.Listed n read → i < n → get_or (look_in (Query b) site t k l).ids i 0 < site.polygons
+  look_named : (b : Aabb) (n read i : ℕ) → (look_in (Query b) site t k l).answer ≡ counted n read → i < n → get_or (look_in (Query b) site t k l).ids i 0 < site.polygons
   unfolding look_of
   look_named b n read i z j = ids_named site t S b l.marks l.epoch (min k.ids (length l.words)) n read i z j
 
@@ -276,7 +271,7 @@ module _ (site : Site) (t : Tables) (S : Sound site t) (c : ViewCone) (O : point
   front_list : (n : ℕ) (w : Sweep) (s : Shown) (d : List ℕ) → OutlineHolds site t c.origin mode w s d → OutlineHolds site t c.origin mode w s (take s.visible (padded 0 n d))
   front_list n w s d h = subst (OutlineHolds site t c.origin mode w s) (sym (ap (λ (m : ℕ). take m (padded 0 n d)) h.many ∙ take-append_seam d _)) h
 
-  seen_holds : (s : Shown) → (seen_from_of site t c tolerance mode k l).answer ≡ Seen s
+  seen_holds : (s : Shown) → (seen_from_of site t c tolerance mode k l).answer ≡ Ok s
       → OutlineHolds site t c.origin mode (seen_sweep site t c tolerance mode k l) s (take s.visible (seen_from_of site t c tolerance mode k l).left.visible)
   unfolding seen_from_of
   seen_holds s e =
@@ -285,9 +280,9 @@ module _ (site : Site) (t : Tables) (S : Sound site t) (c : ViewCone) (O : point
       (drawn_by (Says site t c.origin mode) (says_eight site t c.origin mode) (says_plain site t c.origin mode) q (λ n m. says_circle site t c.origin mode c tolerance n m (length l.outline))
       (is_short k (length l.floats) (length l.words)) p t.boxes (look_in p site t k l).answer (look_in p site t k l).ids (λ b y n read z. says_swept (take n (look_in p site t k l).ids) (below p b y n read z)) s e)
     where
-      below : (p : Plan) (b : Aabb) → p ≡ Query b → (n read : ℕ) → (look_in p site t k l).answer ≡ listing.Listed n read → AllBelow site.polygons (take n (look_in p site t k l).ids)
-      below Empty b y n read z = absurd (let w : ◌≡◌ {A = ℕ} 0 1 = cc in omega arith)
-      below Inside b y n read z = absurd (let w : ◌≡◌ {A = ℕ} 0 1 = cc in omega arith)
+      below : (p : Plan) (b : Aabb) → p ≡ Query b → (n read : ℕ) → (look_in p site t k l).answer ≡ counted n read → AllBelow site.polygons (take n (look_in p site t k l).ids)
+      below Empty b y n read z = cc
+      below Inside b y n read z = cc
       below (Query a) b y n read z =
           at_all (λ (x : ℕ). x < site.polygons) (take n (look_in (Query a) site t k l).ids) 0
           (λ i g. let j : i < n = omega (arith, length-take n (look_in (Query a) site t k l).ids) in rw get_or-take (look_named a n read i z j))
@@ -303,18 +298,16 @@ module _ (site : Site) (t : Tables) (c : ViewCone) (tolerance : Float) (mode : �
   unfolding cone_in_domain
   origin_inside h = (both _ _ (both _ _ (both _ _ (both _ _ h).0).0).0).0
 
-  holds_by : (s : Shown) (n : ℕ) → n ≡ admit_of site t c mode (length l.marks) → (b : Bool) → eqb n 0 ≡ b
-      → (cond b (seen_from_of site t (load_cone_of c) (load_of tolerance) mode k l) (out (Refused n) l)).answer ≡ Seen s
+  holds_by : (s : Shown) (n : Result (Unit {0}) Refusal) → admit_of site t c mode (length l.marks) ≡ n → (outcome_by n site t c tolerance mode k l).answer ≡ Ok s
       → OutlineHolds site t (load_point_of c.origin) mode (seen_sweep site t (load_cone_of c) (load_of tolerance) mode k l) s
-      (take s.visible (cond b (seen_from_of site t (load_cone_of c) (load_of tolerance) mode k l) (out (Refused n) l)).left.visible)
+      (take s.visible (outcome_by n site t c tolerance mode k l).left.visible)
   unfolding load_cone_of
-  holds_by s n e true z h =
-      let m : n ≡ 0 = eqb-true n 0 z in
-      seen_holds site t (sound site t (admitted_sound site t c mode (length l.marks) n e m)) (load_cone_of c) (load_inside (origin_inside (admitted_inside site t c mode (length l.marks) (sym e ∙ m)))) (load_of tolerance) mode k l s h
-  holds_by s n e false z h = not_seen h
+  holds_by s (Ok u) e h =
+      seen_holds site t (sound site t (admitted_sound site t c mode (length l.marks) e)) (load_cone_of c) (load_inside (origin_inside (admitted_inside site t c mode (length l.marks) e))) (load_of tolerance) mode k l s h
+  holds_by s (Err r) e h = cc
 
   -- DEMAND 3 OF THE OUTLINE
-  pub outline_holds : (s : Shown) → (outcome site t c tolerance mode k l).answer ≡ Seen s
+  pub outline_holds : (s : Shown) → (outcome site t c tolerance mode k l).answer ≡ Ok s
       → OutlineHolds site t (load_point_of c.origin) mode (sweep_in site t c tolerance mode k l) s (take s.visible (outcome site t c tolerance mode k l).left.visible)
   unfolding outcome sweep_in
-  outline_holds s h = holds_by s (admit_of site t c mode (length l.marks)) refl (eqb (admit_of site t c mode (length l.marks)) 0) refl h
+  outline_holds s h = holds_by s (admit_of site t c mode (length l.marks)) refl h

@@ -1,21 +1,19 @@
 -- WHEN AN OUTLINE IS REFUSED, AND AS WHAT (`outline_exactly`): 6 exactly where the tables are unsound; after it 1 exactly where the cone lies outside the domain; then 7
 -- exactly where there are fewer stamps than polygons; then 8 exactly where the lent room is too short for the stated entries, or one of the lists of the run that
 -- bounds none is longer than its entries (specs/Unbounded.antt); and else it is answered. Document 01, "Refusal numbers". Assumes nothing.
+use Rattle.std.proofs.Common.{None, Option, Some, Err}
 use mathlib.Core.Path.{◌≡◌, refl, sym, ap, ◌∙◌}
-use mathlib.Core.Bool.{Bool, true, false, cond, ◌||◌, true≢false}
+use mathlib.Core.Bool.{Bool, true, false, cond, ◌||◌, or-false, true≢false}
 use mathlib.Core.List.{List, [], ◌∷◌}
 use Prim.Native.Nat.{ℕ, ◌+◌, ◌*◌, ◌≤◌, min}
 use native.Mathlib.Omega.{arith}
 use borrow.Author.Tests.{lt-ltb, le-ltb, ltb-true, ltb-false}
-use lib.Dec.{ltb, eqb}
+use lib.Dec.{ltb}
 use lib.ListN.{length, take, replicate, length-append}
 use lib.Seq.{take-append_seam}
 use lib.Ieee.{Float}
 use Rattle.lists.specs.Parts.{padded}
 use Rattle.grid.specs.declared.Grid.{Grid}
-use Rattle.grid.specs.declared.Range.{Range}
-use Rattle.grid.specs.declared.Range.TheVariants.{Cells, Nothing}
-use Rattle.grid.specs.declared.Listing.TheVariants as listing
 use Rattle.lists.proofs.AllTo.{neither}
 use Rattle.grid.specs.Range.{range_of}
 use Rattle.grid.specs.Stamps.{epoch_after, marks_begun, firsts}
@@ -28,7 +26,7 @@ use Rattle.site.specs.Domain.{load_of}
 use Rattle.site.specs.Soundness.{sound_of, Sound}
 use Rattle.site.specs.Checks.{passed, check, Exactly}
 use Rattle.site.proofs.SoundLaws.{sound, tested}
-use Rattle.site.proofs.Checks.{all_passed, by_true, by_false}
+use Rattle.site.proofs.Checks.{all_passed, by_true, by_false, either}
 use Rattle.scene.specs.Asked.{asked}
 use Rattle.cone.specs.declared.ViewCone.{ViewCone}
 use Rattle.cone.specs.Cone.{outline_of}
@@ -39,7 +37,6 @@ use Rattle.fan.specs.Fan.{Fanned}
 use Rattle.events.specs.Spots.{Spot, sides_of, aside_count}
 use Rattle.index.specs.Spans.{head_of}
 use Rattle.index.specs.Angular.{refs_of}
-use Rattle.stages.specs.declared.Visibility.TheVariants.{Refused}
 use Rattle.stages.specs.Drawing.{Request, view_in, Drawing, eight, plain, fan_in, unmerged_of, spots_for, circle_by, samples_for, rays_over, run_of, swept_of, spotted, fanned, staged_of}
 use Rattle.stages.proofs.Demand.{run_exact, run_marks}
 use Rattle.view.specs.declared.Plan.{Plan}
@@ -47,16 +44,16 @@ use Rattle.view.specs.declared.Plan.TheVariants.{Empty, Inside, Query}
 use Rattle.cone.specs.Domain.{load_cone_of}
 use Rattle.visibility.specs.Asked.{asked_in_domain, admit_of}
 use Rattle.view.specs.Post.{plan_of}
-use Rattle.visibility.specs.Numbers.{status_of}
-use Rattle.view.specs.Outcome.{Lent, out, look_of, listed_by, planned, drawn_of, request_of, seen_from_of}
-use Rattle.visibility.specs.Outcome.{outcome}
+use Rattle.view.specs.Outcome.{Lent, look_of, listed_by, planned, drawn_of, request_of, seen_from_of}
+use Rattle.visibility.specs.Outcome.{outcome_by, outcome}
+use Rattle.visibility.proofs.Admitting.{tests}
 use Rattle.demand.specs.Unbounded.{Lengths, no_rays, growing, swept_lengths, fanned_lengths, planned_lengths, lengths_of, Enough}
+use Rattle.grid.specs.declared.CellRange.{CellRange}
+use Rattle.refusal.specs.declared.Refusal.TheVariants.{NoListRoom}
+use Rattle.grid.specs.Query.{counted}
+use Rattle.refusal.specs.Numbers.{status_of}
 
 -- ---- tests in a row
-either_of : (a b : Bool) (x y : ℕ) → cond (a || b) x y ≡ cond a x (cond b x y)
-either_of true b x y = refl
-either_of false b x y = refl
-
 -- 8 where the test holds
 abbrev eight_if : Bool → ℕ → ℕ
 eight_if b n = cond b 8 n
@@ -66,12 +63,10 @@ never_longer : (n : ℕ) → ltb n 0 ≡ false
 never_longer n = le-ltb n 0 (omega arith)
 
 eight_or : (a : Bool) (d : Drawing) → status_of (cond a eight d).answer ≡ eight_if a (status_of d.answer)
-eight_or true d = refl
-eight_or false d = refl
+eight_or a d = either (λ (d : Drawing). status_of d.answer) a eight d
 
 plain_or : (a u v : Bool) (d : Drawing) → status_of (cond a (plain u v) d).answer ≡ cond a 0 (status_of d.answer)
-plain_or true u v d = refl
-plain_or false u v d = refl
+plain_or a u v d = either (λ (d : Drawing). status_of d.answer) a (plain u v) d
 
 -- ---- a list is longer than its entries
 abbrev some_longer : Rooms → ℕ → ℕ → Lengths → Bool
@@ -122,8 +117,7 @@ module _ (q : Request) (candidates : ℕ) (n : ℕ) (f : Fanned) where
   unfolding spotted swept_lengths circle_by rays_over
   spotted_status [] =
       eight_or (ltb q.numbers (2 * length (outline_of q.cone q.tolerance))) _
-      ∙ sym (rw (never_longer q.k.starts, never_longer q.k.refs, never_longer q.k.samples, never_longer q.k.owners, never_longer q.k.seen, never_longer q.ids)
-      (either_of (ltb q.numbers (2 * length (outline_of q.cone q.tolerance))) false 8 0))
+      ∙ sym (rw (never_longer q.k.starts, never_longer q.k.refs, never_longer q.k.samples, never_longer q.k.owners, never_longer q.k.seen, never_longer q.ids, or-false))
   spotted_status (s ∷ l) =
       let a = ltb q.k.starts ((head_of 0 (length f.edges) (view_in q).fov).buckets + 1) in
       let b = ltb q.k.refs (refs_of (view_in q).fov f.edges) in
@@ -176,11 +170,6 @@ unfolding swept_lengths
 same_events [] q n f = refl
 same_events (s ∷ l) q n f = refl
 
-tail_false : (a b : Bool) → eight_if (a || b) 0 ≡ eight_if (a || (b || false)) 0
-tail_false true b = refl
-tail_false false true = refl
-tail_false false false = refl
-
 module _ (q : Request) (n : ℕ) (f : Fanned) where
   abbrev sp : List Spot
   sp = spots_for (view_in q) f
@@ -199,8 +188,7 @@ module _ (q : Request) (n : ℕ) (f : Fanned) where
 
   touched : eight_if (many_edges || many_found) 0 ≡ eight_if (scanned q.k q.numbers q.ids (no_rays n (length f.edges) (length f.events) 0 0)) 0
   touched =
-      tail_false many_edges many_found
-      ∙ sym (rw (never_longer q.k.corners, never_longer q.k.starts, never_longer q.k.refs, never_longer q.k.samples, never_longer q.numbers, never_longer q.k.owners, never_longer q.k.seen, never_longer q.ids))
+      sym (rw (never_longer q.k.corners, never_longer q.k.starts, never_longer q.k.refs, never_longer q.k.samples, never_longer q.numbers, never_longer q.k.owners, never_longer q.k.seen, never_longer q.ids, or-false))
 
   untouched : eight_if (many_edges || many_found) (eight_if (many_events || many_corners) (eight_if (behind q.k q.numbers q.ids (swept_lengths q n f sp)) 0))
       ≡ eight_if (scanned q.k q.numbers q.ids (swept_lengths q n f sp)) 0
@@ -244,7 +232,7 @@ module _ (q : Request) (boxes : List Float) (found : List ℕ) (read : ℕ) wher
   staged_status ids e = rw e (fanned_status q (length found) (fan_in q boxes found))
 
   found_by_lem : (t : Bool) → ltb q.k.ids (length found) ≡ t
-      → status_of (listed_by (cond t (listing.Refused 8) (listing.Listed (length found) read)) q boxes (cond t (replicate q.k.ids 0) (padded 0 q.k.ids found))).answer
+      → status_of (listed_by (cond t (Err NoListRoom) (counted (length found) read)) q boxes (cond t (replicate q.k.ids 0) (padded 0 q.k.ids found))).answer
       ≡ eight_if (ltb q.k.ids lengths.ids || scanned q.k q.numbers q.ids lengths) 0
   found_by_lem true h = rw (fanned_ids q (length found) (fan_in q boxes found), h)
   found_by_lem false h = rw (fanned_ids q (length found) (fan_in q boxes found), h) (staged_status (take (length found) (padded 0 q.k.ids found)) (take-append_seam found _))
@@ -253,14 +241,14 @@ module _ (q : Request) (boxes : List Float) (found : List ℕ) (read : ℕ) wher
   found_status = found_by_lem (ltb q.k.ids (length found)) refl
 
 module _ (q : Request) (boxes : List Float) where
-  range_status : (g : Grid) (r : Range) (starts items m : List ℕ) (e : ℕ)
+  range_status : (g : Grid) (r : Option CellRange) (starts items m : List ℕ) (e : ℕ)
       → status_of (listed_by (query.outcome_by g r starts items m e q.k.ids).answer q boxes (query.outcome_by g r starts items m e q.k.ids).ids).answer
       ≡ eight_if (some_longer q.k q.numbers q.ids (fanned_lengths q (length (query.found_by g r starts items m e)) (fan_in q boxes (query.found_by g r starts items m e)))) 0
   unfolding query.outcome_by query.found_by
-  range_status g Nothing starts items m e =
+  range_status g None starts items m e =
       staged_status q boxes [] 0 [] refl
       ∙ sym (rw (fanned_ids q 0 (fan_in q boxes []), never_longer q.k.ids))
-  range_status g (Cells r) starts items m e = found_status q boxes (firsts (epoch_after e) (marks_begun e m) (entries_in g r starts items)) (length (entries_in g r starts items))
+  range_status g (Some r) starts items m e = found_status q boxes (firsts (epoch_after e) (marks_begun e m) (entries_in g r starts items)) (length (entries_in g r starts items))
 
 -- ---- the call, once it is admitted
 no_list : (k : Rooms) (numbers ids : ℕ) → some_longer k numbers ids (no_rays 0 0 0 0 0) ≡ false
@@ -303,7 +291,7 @@ module _ (s : Site) (t : Tables) (c : ViewCone) (tolerance : Float) (mode : ℕ)
   outline_number = by (sound_of s t) (asked_in_domain c mode) (ltb (length l.marks) s.polygons)
     where
       by : (a b d : Bool)
-          → status_of (cond (eqb (cond a (cond b (cond d 7 0) 1) 6) 0) (seen_from_of s t (load_cone_of c) (load_of tolerance) mode k l) (out (Refused (cond a (cond b (cond d 7 0) 1) 6)) l)).answer
+          → status_of (outcome_by (tests a b d) s t c tolerance mode k l).answer
           ≡ cond a (cond b (cond d 7 (eight_if too_long 0)) 1) 6
       by true true true = refl
       by true true false = seen_status

@@ -1,5 +1,5 @@
 -- DEMAND 3'S OWN WORDS: a site built here, what a box query lists, what a ray enters. Definitions only.
-use Rattle.std.specs.Prelude.{◌≡◌, List, ℕ, ◌+◌, ◌≤◌, ◌<◌, ◌-◌, length, Float}
+use Rattle.std.specs.Prelude.{◌≡◌, List, ℕ, ◌+◌, ◌≤◌, ◌<◌, ◌-◌, length, Float, Ok}
 use Rattle.geom.specs.declared.Aabb.{Aabb}
 use Rattle.grid.specs.Range.{range_of}
 use Rattle.site.specs.declared.Site.{Site}
@@ -8,15 +8,14 @@ use Rattle.lists.specs.Members.{In, NoDup}
 use Rattle.geom.specs.declared.Vec2.{Vec2}
 use Rattle.tables.specs.Tables.{span_of, Share, held_in}
 use Rattle.build.specs.Outcome as building
-use Rattle.build.specs.declared.Made.TheVariants as made
 use Rattle.random.specs.declared.SceneConfig.{SceneConfig}
 use Rattle.random.specs.Outcome as drawing
 use Rattle.scene.specs.Answers.{seen_cells}
 
 -- ---- "a site built here and unaltered since": the site s with the tables t as `build::new` or `random::random` left them
 pub data BuiltHere (s : Site) (t : Tables) : Type 0 where
-  by_new : (width height : Float) (given : List Float) (lens : List ℕ) (lent : Tables) → building.Does (building.outcome width height given lens lent) (made.Site s) t → BuiltHere s t
-  by_random : (config : SceneConfig) (lent : Tables) → building.Does (drawing.outcome config lent) (made.Site s) t → BuiltHere s t
+  by_new : (width height : Float) (given : List Float) (lens : List ℕ) (lent : Tables) → building.Does (building.outcome width height given lens lent) (Ok s) t → BuiltHere s t
+  by_random : (config : SceneConfig) (lent : Tables) → building.Does (drawing.outcome config lent) (Ok s) t → BuiltHere s t
 
 -- ---- what a box query lists: the ids and the count, for the box b
 pub record BoxLists (s : Site) (t : Tables) (b : Aabb) (ids : List ℕ) (count : ℕ) : Type 0 where

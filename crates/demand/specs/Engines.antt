@@ -3,13 +3,13 @@
 use Rattle.std.specs.Prelude.{◌≡◌, List, ℕ, length}
 use Rattle.lists.specs.Parts.{padded}
 use Rattle.geom.specs.declared.Aabb.{Aabb}
-use Rattle.grid.specs.declared.Listing.TheVariants.{Listed}
 use Rattle.site.specs.declared.Site.{Site}
 use Rattle.site.specs.Tables.{Tables}
 use Rattle.site.specs.Domain.{load_box_of}
 use Rattle.scene.specs.Stamping.{polygons_near_of}
 use Rattle.near.specs.Outcome.{Outcome, found_near, entries_held, plain_of}
 use Rattle.demand.specs.Calls.{Stamps}
+use Rattle.grid.specs.Query.{counted}
 
 -- `scene::polygons_near`, by the grid's tables and the stamps; and `near::polygons_near_plain`, by the points and polygons alone
 pub data Engine : Type 0 where
@@ -31,5 +31,5 @@ entries_near s t b = entries_held s.grid t.points t.polygons s.polygons (load_bo
 
 -- an outcome in room for k ids: that list, then zeros, and that count
 pub record ListsNear (s : Site) (t : Tables) (b : Aabb) (k : ℕ) (o : Outcome) : Type 0 where
-  pub answer_is : o.answer ≡ Listed (length (near_in s t b)) (entries_near s t b)
+  pub answer_is : o.answer ≡ counted (length (near_in s t b)) (entries_near s t b)
   pub ids_are : o.ids ≡ padded 0 k (near_in s t b)

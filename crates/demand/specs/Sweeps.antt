@@ -1,7 +1,7 @@
 -- WHAT AN OUTLINE CALL ASKS AND CASTS: its own box query, its own sweep with the rays that it casts, and what it is for an id to own an edge that faces the post and
 -- that a cast of this very sweep returned, or tested at exactly the distance that it answered. Document 01, "Outlines from a post"; demand 3; document 02, Q-3.
 -- Definitions only.
-use Rattle.std.specs.Prelude.{◌≡◌, true, cond, List, [], ◌∷◌, ℕ, ◌<◌, length, take, Float, ◌⊎◌}
+use Rattle.std.specs.Prelude.{◌≡◌, true, cond, List, [], ◌∷◌, ℕ, ◌<◌, length, take, Float, ◌⊎◌, Ok, Err, Result, None, Option}
 use Rattle.std.specs.Float.Ieee.{lt}
 use Rattle.grid.specs.Query as query
 use Rattle.site.specs.declared.Site.{Site}
@@ -19,9 +19,6 @@ use Rattle.lists.specs.Members.{In}
 use Rattle.geom.specs.Vec.{from_angle_of}
 use Rattle.geom.specs.declared.Vec2.{Vec2}
 use Rattle.grid.specs.declared.Listing.{Listing}
-use Rattle.grid.specs.declared.Listing.TheVariants as listing
-use Rattle.site.specs.declared.Cast.{Cast}
-use Rattle.site.specs.declared.Cast.TheVariants.{Hit, Miss}
 use Rattle.room.specs.declared.LocalEdge.{LocalEdge}
 use Rattle.room.specs.declared.Sample.{Sample}
 use Rattle.fan.specs.Sides.{facing}
@@ -33,6 +30,9 @@ use Rattle.sweep.specs.Recorder.{as_rust}
 use Rattle.stages.specs.declared.Shown.{Shown}
 use Rattle.credit.specs.Credit.{no_marks}
 use Rattle.stages.specs.Drawing.{Request, view_in, fan_in, spots_for, rays_for, index_for, course_of}
+use Rattle.refusal.specs.declared.Refusal.{Refusal}
+use Rattle.site.specs.Hits.{hit_at}
+use Rattle.site.specs.declared.RayHit.{RayHit}
 
 -- ---- the box query of a call
 -- its outcome: nothing listed and the stamps as they are, where the call makes none
@@ -52,11 +52,11 @@ spotted_sweep q es (s ∷ l) = sweeps q es (s ∷ l)
 abbrev pub fanned_sweep : Request → Fanned → Sweep
 fanned_sweep q f = cond f.touch (still []) (spotted_sweep q f.edges (spots_for (view_in q) f))
 
-abbrev pub listed_sweep : Listing → Request → List Float → List ℕ → Sweep
-listed_sweep (listing.Listed n read) q boxes ids = fanned_sweep q (fan_in q boxes (take n ids))
-listed_sweep (listing.Refused n) q boxes ids = still []
+abbrev pub listed_sweep : Result Listing Refusal → Request → List Float → List ℕ → Sweep
+listed_sweep (Ok l) q boxes ids = fanned_sweep q (fan_in q boxes (take l.written ids))
+listed_sweep (Err r) q boxes ids = still []
 
-abbrev pub planned_sweep : Plan → Request → List Float → Listing → List ℕ → Sweep
+abbrev pub planned_sweep : Plan → Request → List Float → Result Listing Refusal → List ℕ → Sweep
 planned_sweep Empty q boxes a ids = still []
 planned_sweep Inside q boxes a ids = still []
 planned_sweep (Query b) q boxes a ids = listed_sweep a q boxes ids
@@ -82,13 +82,13 @@ refined_in (still es) = []
 refined_in (sweeps q es sp) = (as_rust (course_of q es sp) (rays_for q.mode (view_in q) es sp) no_marks).rays
 
 -- what a ray at an angle hits
-abbrev pub hit_in : Sweep → Float → Cast
-hit_in (still es) angle = Miss
+abbrev pub hit_in : Sweep → Float → Option RayHit
+hit_in (still es) angle = None
 hit_in (sweeps q es sp) angle = hit_of (view_in q) (index_for q es) angle
 
 -- a cast of it returned the edge e: one of refining, or that of a sample
 abbrev pub CastReturned : Sweep → ℕ → Type 0
-CastReturned w e = ((angle : Float) × In angle (refined_in w) × (u : Float) × (hit_in w angle ≡ Hit u e)) ⊎ ((a : Sample) × In a (samples_in w) × (u : Float) × (a.hit ≡ Hit u e))
+CastReturned w e = ((angle : Float) × In angle (refined_in w) × (u : Float) × (hit_in w angle ≡ hit_at u e)) ⊎ ((a : Sample) × In a (samples_in w) × (u : Float) × (a.hit ≡ hit_at u e))
 
 -- the front edges that the cast at an angle tests and meets at exactly the distance u (document 02, Q-3)
 abbrev pub tied_in : Sweep → Float → Float → List LocalEdge
@@ -98,8 +98,8 @@ tied_in (sweeps q es sp) angle u = tied_of (index_for q es) (view_in q).o angle 
 -- a cast of it tested the edge e at exactly the distance that it answered: one of refining, or that of a sample
 abbrev pub CastTested : Sweep → ℕ → Type 0
 CastTested w e =
-    ((angle : Float) × In angle (refined_in w) × (u : Float) × (f : ℕ) × (hit_in w angle ≡ Hit u f) × (y : LocalEdge) × In y (tied_in w angle u) × (y.edge ≡ e))
-    ⊎ ((a : Sample) × In a (samples_in w) × (u : Float) × (f : ℕ) × (a.hit ≡ Hit u f) × (y : LocalEdge) × In y (tied_in w a.angle u) × (y.edge ≡ e))
+    ((angle : Float) × In angle (refined_in w) × (u : Float) × (f : ℕ) × (hit_in w angle ≡ hit_at u f) × (y : LocalEdge) × In y (tied_in w angle u) × (y.edge ≡ e))
+    ⊎ ((a : Sample) × In a (samples_in w) × (u : Float) × (f : ℕ) × (a.hit ≡ hit_at u f) × (y : LocalEdge) × In y (tied_in w a.angle u) × (y.edge ≡ e))
 
 -- the counts of front edges and merged events are those of the lists that it goes by
 abbrev pub CountsOf : Sweep → Shown → Type 0

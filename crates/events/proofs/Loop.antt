@@ -3,6 +3,7 @@
 use mathlib.Core.Path.{◌≡◌, refl, sym, ap, ◌∙◌, subst}
 use mathlib.Core.Bool.{Bool, true, false, ◌||◌}
 use mathlib.Core.List.{List, ◌∷◌}
+use Rattle.std.specs.Prelude.{Option, Some, None}
 use Prim.Native.Nat.{ℕ, ◌+◌, ◌≤◌, ◌<◌}
 use native.Mathlib.Omega.{arith}
 use lib.Ieee.{Float}
@@ -16,8 +17,6 @@ use Rattle.room.specs.Records.{event_at}
 use Rattle.events.specs.Spots.{is_near, is_aside, kept_of, gathered, aside_count}
 use Rattle.events.specs.Held.{turn_at, open_of, join_of, Closing, Closed, Frame, Gathered, Turns, Ends, Done}
 use Rattle.events.specs.declared.Open.{Open}
-use Rattle.events.specs.declared.Gathering.{Gathering}
-use Rattle.events.specs.declared.Gathering.TheVariants.{Still, Full}
 use Rattle.events.proofs.Reading.{frame_refl, frame_trans, frame_corner, turn_kept, listed_here}
 use Rattle.events.proofs.Running.{gather_first, joined, kept_aside, too_many, next_open, all_closed, over_done}
 
@@ -35,7 +34,6 @@ join_is g e d q = rw q
 pub record Loop (k : Rooms) (f₀ : List Float) (w₀ : List ℕ) (m : ℕ) (f : List Float) (w : List ℕ) (g : Open) (t : ℕ) : Type 0 where
   pub frame : Frame k f₀ w₀ f w
   pub state : Gathered k (listed (turn_at k f₀ w₀) m) f w g t
-  pub most : t ≤ m
 
 module _ (k : Rooms) (f₀ : List Float) (w₀ : List ℕ) (m : ℕ) (tu : Turns k m f₀ w₀) where
   pub loop_first : {e : Event} {g : Open} → e ≡ turn_at k f₀ w₀ 0 → g ≡ open_of e 0 0 → Loop k f₀ w₀ m f₀ w₀ g 1
@@ -44,10 +42,9 @@ module _ (k : Rooms) (f₀ : List Float) (w₀ : List ℕ) (m : ℕ) (tu : Turns
       record {
         frame = frame_refl k f₀ w₀;
         state = rw (r, q) (gather_first k f₀ w₀ (listed F m) (F 0) (listed_here F m 0 tu.some));
-        most = tu.some;
       }
 
-  module _ (f : List Float) (w : List ℕ) (g : Open) (t : ℕ) (l : Loop k f₀ w₀ m f w g t) where
+  module _ (f : List Float) (w : List ℕ) (g : Open) (t : ℕ) (most : t ≤ m) (l : Loop k f₀ w₀ m f w g t) where
     pub fit_now : Fit k (length f) (length w)
     fit_now = record {
       floats_fit = omega (arith, tu.fit.floats_fit, l.frame.floats.long);
@@ -55,11 +52,11 @@ module _ (k : Rooms) (f₀ : List Float) (w₀ : List ℕ) (m : ℕ) (tu : Turns
     }
 
     pub can_close : Closing k f w g
-    can_close = record { fit = fit_now; free = omega (arith, l.state.some, l.most, tu.most); stands = l.state.stands }
+    can_close = record { fit = fit_now; free = omega (arith, l.state.some, most, tu.most); stands = l.state.stands }
 
     -- none is left
     pub loop_end : m ≤ t → Gathered k (listed (turn_at k f₀ w₀) m) f w g (length (listed (turn_at k f₀ w₀) m))
-    loop_end h = let e : t ≡ length (listed (turn_at k f₀ w₀) m) = omega (arith, l.most, length_listed (turn_at k f₀ w₀) m) in subst (Gathered k (listed (turn_at k f₀ w₀) m) f w g) e l.state
+    loop_end h = let e : t ≡ length (listed (turn_at k f₀ w₀) m) = omega (arith, most, length_listed (turn_at k f₀ w₀) m) in subst (Gathered k (listed (turn_at k f₀ w₀) m) f w g) e l.state
 
     module _ (h : t < m) {e : Event} (q : e ≡ turn_at k f w t) {n : Bool} (en : n ≡ is_near g.angle e.angle) where
       here : drop t (listed (turn_at k f₀ w₀) m) ≡ e ∷ drop (t + 1) (listed (turn_at k f₀ w₀) m)
@@ -71,7 +68,6 @@ module _ (k : Rooms) (f₀ : List Float) (w₀ : List ℕ) (m : ℕ) (tu : Turns
       loop_next nt {f'} {w'} {g'} c r = record {
         frame = frame_trans l.frame c.frame;
         state = rw r (next_open k f f' w w' g fit_now l.state.stands c (listed (turn_at k f₀ w₀) m) t l.state e here (sym en ∙ nt));
-        most = omega arith;
       }
 
       module _ (ny : n ≡ true) {b : Bool} (eb : b ≡ is_aside g.vertex e.vertex) where
@@ -79,7 +75,6 @@ module _ (k : Rooms) (f₀ : List Float) (w₀ : List ℕ) (m : ℕ) (tu : Turns
         loop_join nt r = record {
           frame = l.frame;
           state = rw r (joined k (listed (turn_at k f₀ w₀) m) f w g t l.state e here (sym en ∙ ny) (sym eb ∙ nt));
-          most = omega arith;
         }
 
         pub loop_aside : b ≡ true → g.corners < k.corners → {a c : ℕ} {w' : List ℕ} {g' : Open} → a ≡ corners_w k → c ≡ g.corners → w' ≡ set w (a + c) e.vertex → g' ≡ join_of g e (g.corners + 1)
@@ -89,7 +84,6 @@ module _ (k : Rooms) (f₀ : List Float) (w₀ : List ℕ) (m : ℕ) (tu : Turns
             record {
               frame = frame_trans l.frame (frame_corner k f w g.corners e.vertex hc s);
               state = rw r (kept_aside k (listed (turn_at k f₀ w₀) m) f w g t l.state e here fit_now can_close.free (sym en ∙ ny) (sym eb ∙ bt) hc s);
-              most = omega arith;
             }
 
         pub loop_full : b ≡ true → k.corners ≤ g.corners → k.corners < aside_count (gathered (listed (turn_at k f₀ w₀) m))
@@ -97,22 +91,22 @@ module _ (k : Rooms) (f₀ : List Float) (w₀ : List ℕ) (m : ℕ) (tu : Turns
 
 -- ---- after it: the last event is closed, or there was no room
 
-module _ (k : Rooms) (f₀ : List Float) (w₀ : List ℕ) (m : ℕ) (tu : Turns k m f₀ w₀) (f : List Float) (w : List ℕ) {o : Gathering}
+module _ (k : Rooms) (f₀ : List Float) (w₀ : List ℕ) (m : ℕ) (tu : Turns k m f₀ w₀) (f : List Float) (w : List ℕ) {o : Option Open}
     (e : Ends k (listed (turn_at k f₀ w₀) m) f w o) (p : Frame k f₀ w₀ f w) where
-  pub full_done : o ≡ Full → {n : ℕ} → n ≡ m → Done k (listed (turn_at k f₀ w₀) m) f w (record { unmerged = n; events = 0; corners = 0; over = true })
+  pub full_done : o ≡ None → {n : ℕ} → n ≡ m → Done k (listed (turn_at k f₀ w₀) m) f w (record { unmerged = n; events = 0; corners = 0; over = true })
   full_done q {n} en =
       over_done k (listed (turn_at k f₀ w₀) m) f w (record { unmerged = n; events = 0; corners = 0; over = true }) (subst (Ends k (listed (turn_at k f₀ w₀) m) f w) q e) refl
       (en ∙ sym (length_listed (turn_at k f₀ w₀) m))
 
-  module _ (g : Open) (q : o ≡ Still g) where
+  module _ (g : Open) (q : o ≡ Some g) where
     last : Gathered k (listed (turn_at k f₀ w₀) m) f w g (length (listed (turn_at k f₀ w₀) m))
     last = subst (Ends k (listed (turn_at k f₀ w₀) m) f w) q e
 
     at_end : Loop k f₀ w₀ m f w g (length (listed (turn_at k f₀ w₀) m))
-    at_end = record { frame = p; state = last; most = omega (arith, length_listed (turn_at k f₀ w₀) m) }
+    at_end = record { frame = p; state = last }
 
     pub close_last : Closing k f w g
-    close_last = can_close k f₀ w₀ m tu f w g (length (listed (turn_at k f₀ w₀) m)) at_end
+    close_last = can_close k f₀ w₀ m tu f w g (length (listed (turn_at k f₀ w₀) m)) (omega (arith, length_listed (turn_at k f₀ w₀) m)) at_end
 
     pub last_done : (f' : List Float) (w' : List ℕ) → Closed k g f w f' w' → {n s c : ℕ} → n ≡ m → s ≡ g.spots → c ≡ g.corners
         → Done k (listed (turn_at k f₀ w₀) m) f' w' (record { unmerged = n; events = s + 1; corners = c; over = false })

@@ -1,6 +1,6 @@
 -- What the room holds of the events: the unmerged ones in order, the merged ones with their corners; and what merging promises.
 -- Definitions only.
-use Rattle.std.specs.Prelude.{◌≡◌, false, ◌||◌, List, ◌++◌, ℕ, zero, suc, ◌+◌, ◌≤◌, ◌<◌, ltb, Float, length, get_or, drop}
+use Rattle.std.specs.Prelude.{◌≡◌, false, ◌||◌, Option, Some, None, List, ◌++◌, ℕ, zero, suc, ◌+◌, ◌≤◌, ◌<◌, ltb, Float, length, get_or, drop}
 use Rattle.lists.specs.Lists.{listed}
 use Rattle.lists.specs.Parts.{part, Only}
 use Rattle.room.specs.declared.Rooms.{Rooms}
@@ -9,8 +9,6 @@ use Rattle.room.specs.Layout.{merged_f, samples_f, turns_w, merged_w, corners_w,
 use Rattle.room.specs.Records.{event_at, merged_at}
 use Rattle.events.specs.Spots.{Spot, closed, gather, gathered, spots_of, aside_count, kept_of}
 use Rattle.events.specs.declared.Open.{Open}
-use Rattle.events.specs.declared.Gathering.{Gathering}
-use Rattle.events.specs.declared.Gathering.TheVariants.{Still, Full}
 use Rattle.events.specs.declared.Merging.{Merging}
 
 -- ---- reading
@@ -101,9 +99,9 @@ pub record Turns (k : Rooms) (m : ℕ) (floats : List Float) (words : List ℕ) 
   pub below : (t : ℕ) → t < m → get_or words (turns_w k + t) 0 < k.events
 
 -- what the run ends with: an open event and none to come, or more corners than there is room for
-abbrev pub Ends : Rooms → List Event → List Float → List ℕ → Gathering → Type 0
-Ends k all floats words (Still g) = Gathered k all floats words g (length all)
-Ends k all floats words Full = k.corners < aside_count (gathered all)
+abbrev pub Ends : Rooms → List Event → List Float → List ℕ → Option Open → Type 0
+Ends k all floats words (Some g) = Gathered k all floats words g (length all)
+Ends k all floats words None = k.corners < aside_count (gathered all)
 
 -- the first n merged events have their corners in the corners' own stretch
 abbrev pub EndsBelow : Rooms → List Float → List ℕ → ℕ → Type 0

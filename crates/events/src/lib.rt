@@ -26,14 +26,8 @@ struct Open {
     spots: u32,
 }
 
-// What going through the events comes to: the last one is still open, or there is no room for a corner.
-#[derive(Clone, Copy)]
-enum Gathering {
-    Still(Open),
-    Full,
-}
-
 // What merging answers: the entries of each list, and whether one passed the entries allowed to it.
+// A flag beside them and no `Option` around them: the numbers are promised where a list is over too (`Merges`).
 #[derive(Clone, Copy)]
 pub struct Merging {
     pub unmerged: usize,
@@ -53,23 +47,14 @@ fn is_near(a: f64, b: f64) -> bool
 fn is_aside(a: u32, b: u32) -> bool
     ensures { result ≡ is_aside a b }
 {
-    if a == room::NO_VERTEX {
-        return false;
-    }
-    if b == room::NO_VERTEX {
-        return false;
-    }
-    b != a
+    a != room::NO_VERTEX && b != room::NO_VERTEX && b != a
 }
 
 // The corner that is kept of two.
 fn kept(a: u32, b: u32) -> u32
     ensures { result ≡ kept_of a b }
 {
-    if a == room::NO_VERTEX {
-        return b;
-    }
-    a
+    if a == room::NO_VERTEX { b } else { a }
 }
 
 // Opens e: so many corners and events are behind it.
@@ -91,12 +76,10 @@ fn join(g: Open, e: Event, corners: u32) -> Open
     ensures { result ≡ join_of g e corners }
 {
     Open {
-        angle: g.angle,
         vertex: kept(g.vertex, e.vertex),
         side: g.side | e.side,
-        first: g.first,
         corners,
-        spots: g.spots,
+        ..g
     }
 }
 
@@ -104,8 +87,8 @@ fn join(g: Open, e: Event, corners: u32) -> Open
 fn turn_at(k: Rooms, floats: &[f64], words: &[u32], t: u32) -> Event
     ensures { result ≡ turn_at k floats.now words.now t }
 {
-    let at = room::turns_w(k) + lists::wide(t);
-    room::event_at(k, floats, words, lists::at32(words, at))
+    let at = room::turns_w(k) + t as usize;
+    room::event_at(k, floats, words, lists::at(words, at))
 }
 
 // Writes the open event behind the closed ones, and sorts its corners.
@@ -113,8 +96,8 @@ fn close(k: Rooms, floats: &mut [f64], words: &mut [u32], g: Open)
     requires { Closing k floats.old words.old g }
     ensures { Closed k g floats.old words.old floats.new words.new }
 {
-    let from = room::corners_w(k) + lists::wide(g.first);
-    let n = lists::wide(g.corners) - lists::wide(g.first);
+    let from = room::corners_w(k) + g.first as usize;
+    let n = g.corners as usize - g.first as usize;
     let to = room::starts_w(k);
     sorts::sort_numbers(&mut *words, n, from, to);
     let e = Merged {
@@ -126,36 +109,31 @@ fn close(k: Rooms, floats: &mut [f64], words: &mut [u32], g: Open)
     room::put_merged(k, floats, words, g.spots, e);
 }
 
-// Goes through the m events in order: each is merged into the open one, or closes it.
-fn gather(k: Rooms, floats: &mut [f64], words: &mut [u32], m: u32) -> Gathering
+// Goes through the m events in order: each is merged into the open one, or closes it. The last one is still open then; none where there is no
+// room for a corner.
+fn gather(k: Rooms, floats: &mut [f64], words: &mut [u32], m: u32) -> Option<Open>
     requires { Turns k m floats.old words.old }
     ensures ends { Ends k (listed (turn_at k floats.old words.old) m) floats.new words.new result }
     ensures frame { Frame k floats.old words.old floats.new words.new }
 {
     let mut g = begin(turn_at(k, floats, words, 0), 0, 0);
-    let mut t: u32 = 1;
-    while t < m {
+    for t in 1..m {
         let e = turn_at(k, floats, words, t);
-        if is_near(g.angle, e.angle) {
-            if is_aside(g.vertex, e.vertex) {
-                if k.corners <= g.corners {
-                    return Gathering::Full;
-                }
-                let at = room::corners_w(k) + lists::wide(g.corners);
-                lists::put32(&mut *words, at, e.vertex);
-                g = join(g, e, g.corners + 1);
-                t += 1;
-            } else {
-                g = join(g, e, g.corners);
-                t += 1;
-            }
-        } else {
+        if !is_near(g.angle, e.angle) {
             close(k, &mut *floats, &mut *words, g);
             g = begin(e, g.corners, g.spots + 1);
-            t += 1;
+        } else if is_aside(g.vertex, e.vertex) {
+            if k.corners <= g.corners {
+                return None;
+            }
+            let at = room::corners_w(k) + g.corners as usize;
+            lists::put(&mut *words, at, e.vertex);
+            g = join(g, e, g.corners + 1);
+        } else {
+            g = join(g, e, g.corners);
         }
     }
-    Gathering::Still(g)
+    Some(g)
 }
 
 // Merges the m events that stand in order.
@@ -164,22 +142,20 @@ fn merge_turns(k: Rooms, floats: &mut [f64], words: &mut [u32], m: u32) -> Mergi
     ensures done { Done k (listed (turn_at k floats.old words.old) m) floats.new words.new result }
     ensures frame { Frame k floats.old words.old floats.new words.new }
 {
-    match gather(k, &mut *floats, &mut *words, m) {
-        Gathering::Full => Merging {
-            unmerged: lists::wide(m),
+    let Some(g) = gather(k, &mut *floats, &mut *words, m) else {
+        return Merging {
+            unmerged: m as usize,
             events: 0,
             corners: 0,
             over: true,
-        },
-        Gathering::Still(g) => {
-            close(k, floats, words, g);
-            Merging {
-                unmerged: lists::wide(m),
-                events: lists::wide(g.spots) + 1,
-                corners: lists::wide(g.corners),
-                over: false,
-            }
-        }
+        };
+    };
+    close(k, floats, words, g);
+    Merging {
+        unmerged: m as usize,
+        events: g.spots as usize + 1,
+        corners: g.corners as usize,
+        over: false,
     }
 }
 
@@ -200,7 +176,7 @@ fn merge_sorted(k: Rooms, floats: &mut [f64], words: &mut [u32], m: u32) -> Merg
     let from = room::events_f(k);
     let to = room::turns_w(k);
     let end = room::merged_w(k);
-    sorts::order_keys(floats, &mut *words, from, lists::wide(m), to, end);
+    sorts::order_keys(floats, &mut *words, from, m as usize, to, end);
     merge_turns(k, floats, words, m)
 }
 
@@ -243,7 +219,7 @@ pub fn merge_events(
     }
     if k.events - n < 2 {
         return Merging {
-            unmerged: lists::wide(n) + 2,
+            unmerged: n as usize + 2,
             events: 0,
             corners: 0,
             over: true,

@@ -15,6 +15,9 @@ ghost use Rattle.angle.specs.Angles.{sin_of, cos_of, atan2_of, acos_of};
 ghost use Rattle.rng.specs.Rng.{new_of, next_u64_of, next_f64_of, range_of};
 ghost use Rattle.exports.specs.Numbers.{bit, place};
 
+use rng::Rng;
+use std::cmp::Ordering;
+
 // ---- num
 
 #[unsafe(no_mangle)]
@@ -84,11 +87,10 @@ pub extern "C" fn bf_to_i64(x: f64) -> i64
 pub extern "C" fn bf_total_cmp(x: f64, y: f64) -> u32
     ensures { result ≡ place (order_of x y) }
 {
-    let o = num::total_cmp(x, y);
-    match o {
-        num::Order::Less => 0,
-        num::Order::Equal => 1,
-        num::Order::Greater => 2,
+    match num::total_cmp(x, y) {
+        Ordering::Less => 0,
+        Ordering::Equal => 1,
+        Ordering::Greater => 2,
     }
 }
 
@@ -151,28 +153,28 @@ pub extern "C" fn bf_acos(x: f64) -> f64
 pub extern "C" fn bf_rng_next_u64(state: u64, next: &mut u64) -> u64
     ensures { (result ≡ (next_u64_of (new_of state)).value) × (next.new ≡ (next_u64_of (new_of state)).rng.0) }
 {
-    let d = rng::Rng::new(state).next_u64();
-    let g = d.rng;
-    *next = g.0;
-    d.value
+    let mut rng = Rng::new(state);
+    let value = rng.next_u64();
+    *next = rng.0;
+    value
 }
 
 #[unsafe(no_mangle)]
 pub extern "C" fn bf_rng_next_f64(state: u64, next: &mut u64) -> f64
     ensures { (result ≡ (next_f64_of (new_of state)).value) × (next.new ≡ (next_f64_of (new_of state)).rng.0) }
 {
-    let d = rng::Rng::new(state).next_f64();
-    let g = d.rng;
-    *next = g.0;
-    d.value
+    let mut rng = Rng::new(state);
+    let value = rng.next_f64();
+    *next = rng.0;
+    value
 }
 
 #[unsafe(no_mangle)]
 pub extern "C" fn bf_rng_range(state: u64, lo: u64, hi: u64, next: &mut u64) -> u64
     ensures { (result ≡ (range_of (new_of state) lo hi).value) × (next.new ≡ (range_of (new_of state) lo hi).rng.0) }
 {
-    let d = rng::Rng::new(state).range(lo, hi);
-    let g = d.rng;
-    *next = g.0;
-    d.value
+    let mut rng = Rng::new(state);
+    let value = rng.range(lo, hi);
+    *next = rng.0;
+    value
 }

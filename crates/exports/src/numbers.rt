@@ -35,75 +35,62 @@ pub fn box_of(b: &[f64; 4]) -> Aabb
     }
 }
 
-pub fn hit(r: geom::Reach) -> u32
+pub fn hit(r: Option<f64>) -> u32
     ensures { result ≡ hit r }
 {
-    match r {
-        geom::Reach::Hit(_) => 1,
-        geom::Reach::Miss => 0,
-    }
+    r.is_some() as u32
 }
 
-pub fn reach_of(r: geom::Reach) -> f64
+pub fn reach_of(r: Option<f64>) -> f64
     ensures { result ≡ reach_of r }
 {
     match r {
-        geom::Reach::Hit(t) => t,
-        geom::Reach::Miss => 0.0,
+        Some(t) => t,
+        None => 0.0,
     }
 }
 
-pub fn met(m: geom::Meeting) -> u32
+pub fn met(m: Option<Vec2>) -> u32
     ensures { result ≡ met m }
 {
-    match m {
-        geom::Meeting::At(_) => 1,
-        geom::Meeting::Nowhere => 0,
-    }
+    m.is_some() as u32
 }
 
-pub fn point_of(m: geom::Meeting) -> Vec2
+pub fn point_of(m: Option<Vec2>) -> Vec2
     ensures { result ≡ point_of m }
 {
     match m {
-        geom::Meeting::At(p) => p,
-        geom::Meeting::Nowhere => Vec2 { x: 0.0, y: 0.0 },
+        Some(p) => p,
+        None => Vec2::ZERO,
     }
 }
 
-pub fn met_both(m: geom::Meetings) -> u32
+pub fn met_both(m: [Option<Vec2>; 2]) -> u32
     ensures { result ≡ met_both m }
 {
-    let first = m.first;
-    let second = m.second;
-    met(first) + 2 * met(second)
+    met(m[0]) + 2 * met(m[1])
 }
 
 // Four numbers out, two points that may be missing.
-pub fn put_points(out: &mut [f64; 4], m: geom::Meetings)
+pub fn put_points(out: &mut [f64; 4], m: [Option<Vec2>; 2])
     ensures { out.new ≡ points_of m }
 {
-    let first = m.first;
-    let second = m.second;
-    let v = point_of(first);
-    let w = point_of(second);
+    let v = point_of(m[0]);
+    let w = point_of(m[1]);
     *out = [v.x, v.y, w.x, w.y];
 }
 
-pub fn part(c: geom::Clip) -> u32
+pub fn part(c: Option<(f64, f64)>) -> u32
     ensures { result ≡ part c }
 {
-    match c {
-        geom::Clip::Part(_, _) => 1,
-        geom::Clip::Outside => 0,
-    }
+    c.is_some() as u32
 }
 
-pub fn part_of(c: geom::Clip) -> Vec2
+pub fn part_of(c: Option<(f64, f64)>) -> Vec2
     ensures { result ≡ part_of c }
 {
     match c {
-        geom::Clip::Part(from, to) => Vec2 { x: from, y: to },
-        geom::Clip::Outside => Vec2 { x: 0.0, y: 0.0 },
+        Some((from, to)) => Vec2 { x: from, y: to },
+        None => Vec2::ZERO,
     }
 }

@@ -1,4 +1,6 @@
 -- Counting the answers of many questions (specs/Many.antt): each adds 1 at most, so that the count fits. Assumes nothing.
+use Rattle.std.proofs.Common.{None, Option, Some}
+use Rattle.std.specs.Option.{is_some}
 use mathlib.Core.Path.{◌≡◌}
 use mathlib.Core.List.{List}
 use Prim.Native.Nat.{ℕ, ◌+◌, ◌*◌, ◌≤◌}
@@ -8,43 +10,30 @@ use lib.ListN.{get_or}
 use lib.Ieee.{Float, nan}
 use Rattle.lists.specs.Lists.{sum_to}
 use Rattle.lists.proofs.Counting.{bit_le}
-use Rattle.geom.specs.declared.Vec2.{Vec2}
 use Rattle.geom.specs.Vec.{vec}
 use Rattle.geom.specs.Box.{corner_of}
 use Rattle.grid.specs.declared.Grid.{Grid}
-use Rattle.site.specs.declared.Cast.{Cast}
-use Rattle.site.specs.declared.Cast.TheVariants as cast
-use Rattle.sight.specs.declared.Whose.{Whose}
-use Rattle.sight.specs.declared.Whose.TheVariants.{Id, Nobody}
 use Rattle.sight.specs.Holding.{polygon_at_of}
 use Rattle.sight.specs.Casting.{cast_ray_of}
 use Rattle.scene.specs.Numbers.{cast_hit}
-use Rattle.exports_scene.specs.Many.{is_held, held_at, hit_at}
+use Rattle.exports_scene.specs.Many.{held_at, hit_at}
+use Rattle.site.specs.declared.RayHit.{RayHit}
 
 -- one answer more
 sum_next : (f : ℕ → ℕ) (i : ℕ) {n b : ℕ} → n ≡ sum_to f i → b ≡ f i → n + b ≡ sum_to f (i + 1)
 sum_next f i e h = rw (add-one, e, h)
 
-hit_le_one : (h : Cast) → cast_hit h ≤ 1
-hit_le_one (cast.Hit t e) = omega arith
-hit_le_one cast.Miss = omega arith
+hit_le_one : (h : Option RayHit) → cast_hit h ≤ 1
+hit_le_one (Some h) = omega arith
+hit_le_one None = omega arith
 
 module _ (g : Grid) (points boxes : List Float) (polygons starts items : List ℕ) (asked : List Float) (i : ℕ) where
-  -- the two ways of a point
-  pub held_yes : {p : Vec2} {w : Whose} {k : ℕ} → p ≡ corner_of asked i → w ≡ polygon_at_of g points boxes polygons starts items p → w ≡ Id k → 1 ≡ held_at g points boxes polygons starts items asked i
-  unfolding held_at
-  held_yes e f h = rw (← e, ← f, h)
-
-  pub held_no : {p : Vec2} {w : Whose} → p ≡ corner_of asked i → w ≡ polygon_at_of g points boxes polygons starts items p → w ≡ Nobody → 0 ≡ held_at g points boxes polygons starts items asked i
-  unfolding held_at
-  held_no e f h = rw (← e, ← f, h)
-
   pub held_next : {n b : ℕ} → n ≡ sum_to (held_at g points boxes polygons starts items asked) i → b ≡ held_at g points boxes polygons starts items asked i → n + b ≡ sum_to (held_at g points boxes polygons starts items asked) (i + 1)
   held_next = sum_next (held_at g points boxes polygons starts items asked) i
 
   pub held_le : {b : ℕ} → b ≡ held_at g points boxes polygons starts items asked i → b ≤ 1
   unfolding held_at
-  held_le e = omega (arith, e, bit_le (is_held (polygon_at_of g points boxes polygons starts items (corner_of asked i))))
+  held_le e = omega (arith, e, bit_le (is_some (polygon_at_of g points boxes polygons starts items (corner_of asked i))))
 
   pub hit_next : {n b : ℕ} → n ≡ sum_to (hit_at g points boxes polygons starts items asked) i → b ≡ hit_at g points boxes polygons starts items asked i → n + b ≡ sum_to (hit_at g points boxes polygons starts items asked) (i + 1)
   hit_next = sum_next (hit_at g points boxes polygons starts items asked) i

@@ -1,26 +1,20 @@
 -- Many questions in one call, for timing alone: how many of the points of a list lie in a polygon, and how many of its rays hit. What each question answers is
 -- `polygon_at_of` and `cast_ray_of` of `sight`. Definitions only.
-use Rattle.std.specs.Prelude.{ℕ, ◌+◌, ◌*◌, ◌/◌, Bool, true, false, List, length, get_or, Float}
+use Rattle.std.specs.Prelude.{ℕ, ◌+◌, ◌*◌, ◌/◌, List, length, get_or, Float}
+use Rattle.std.specs.Option.{is_some}
 use Rattle.std.specs.Float.{nan}
 use Rattle.lists.specs.Lists.{bit, sum_to}
 use Rattle.geom.specs.Vec.{vec}
 use Rattle.geom.specs.Box.{corners, corner_of}
 use Rattle.grid.specs.declared.Grid.{Grid}
-use Rattle.sight.specs.declared.Whose.{Whose}
-use Rattle.sight.specs.declared.Whose.TheVariants.{Id, Nobody}
 use Rattle.sight.specs.Holding.{polygon_at_of}
 use Rattle.sight.specs.Casting.{cast_ray_of}
 use Rattle.scene.specs.Numbers.{cast_hit}
 
 -- ---- points: x and y by turns, an odd last number is no point
--- a polygon was found
-abbrev pub is_held : Whose → Bool
-is_held (Id k) = true
-is_held Nobody = false
-
 -- 1 where the point i lies in a polygon, else 0
 unfoldable pub held_at : Grid → List Float → List Float → List ℕ → List ℕ → List ℕ → List Float → ℕ → ℕ
-held_at g points boxes polygons starts items asked i = bit (is_held (polygon_at_of g points boxes polygons starts items (corner_of asked i)))
+held_at g points boxes polygons starts items asked i = bit (is_some (polygon_at_of g points boxes polygons starts items (corner_of asked i)))
 
 -- how many points lie in a polygon
 unfoldable pub held_of : Grid → List Float → List Float → List ℕ → List ℕ → List ℕ → List Float → ℕ

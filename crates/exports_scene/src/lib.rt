@@ -7,12 +7,13 @@
 pub mod inner;
 pub mod reads;
 
+ghost use Rattle.refusal.specs.Numbers.{status_of};
 ghost use Rattle.std.specs.Prelude.{◌≡◌, get_or};
 ghost use Rattle.std.specs.Float.{nan};
 ghost use Rattle.lists.specs.Lists.{bit};
 ghost use Rattle.geom.specs.Vec.{vec};
 ghost use Rattle.grid.specs.Boxes.{box_at};
-ghost use Rattle.site.specs.Tables.{tables};
+ghost use Rattle.site.specs.Tables.{tables, tables_of};
 ghost use Rattle.site.specs.Soundness.{sound_of};
 ghost use Rattle.build.specs.Outcome.{outcome};
 ghost use Rattle.random.specs.Outcome as drawing;
@@ -21,13 +22,42 @@ ghost use Rattle.scene.specs.Stamping.{polygons_near_of, new_stamps_of};
 ghost use Rattle.grid.specs.Numbers.{Lists};
 ghost use Rattle.near.specs.Outcome.{plain_of};
 ghost use Rattle.near.specs.Numbers as plain;
-ghost use Rattle.scene.specs.Numbers.{extent_status, extent_value, bounds_status, bounds_four, dims_status, dims_two, shape_status, shape_place, shape_four, segment_status, segment_four, index_status, index_value, count_status, count_value, found_status, found_two, look_status, look_distance, look_three};
+ghost use Rattle.scene.specs.Numbers.{extent_value, bounds_four, dims_two, shape_place, shape_four, segment_four, number_value, found_two, look_distance, look_three};
 ghost use Rattle.answers.specs.Head.{site_of};
 ghost use Rattle.answers.specs.Outcomes.{Anew, Builds};
 ghost use Rattle.exports_scene.specs.Settings.{config_of};
 
 use geom::Vec2;
 use random::SceneConfig;
+use scene::Scene;
+use site::SiteTables;
+
+// The scene of a head and the six tables.
+fn scene_of<'a>(
+    head: &[f64; 6],
+    counts: &[u32; 5],
+    points: &'a [f64],
+    boxes: &'a [f64],
+    polygons: &'a [u32],
+    owners: &'a [u32],
+    starts: &'a [u32],
+    items: &'a [u32],
+) -> Scene<'a, 'a, 'a>
+    ensures site_is { result.site ≡ site_of head.now counts.now }
+    ensures tables_are { tables_of result.tables ≡ tables points.now boxes.now polygons.now owners.now starts.now items.now }
+{
+    Scene {
+        site: answers::site_of(head, counts),
+        tables: SiteTables {
+            points,
+            boxes,
+            polygons,
+            owners,
+            starts,
+            items,
+        },
+    }
+}
 
 // Are the tables sound? 1 or 0.
 #[unsafe(no_mangle)]
@@ -43,18 +73,8 @@ pub extern "C" fn bf_scene_is_sound(
 ) -> u32
     ensures { result ≡ bit (sound_of (site_of head.now counts.now) (tables points.now boxes.now polygons.now owners.now starts.now items.now)) }
 {
-    if site::is_sound(
-        answers::site_of(head, counts),
-        points,
-        boxes,
-        polygons,
-        owners,
-        starts,
-        items,
-    ) {
-        return 1;
-    }
-    0
+    let s = scene_of(head, counts, points, boxes, polygons, owners, starts, items);
+    site::is_sound(s.site, s.tables) as u32
 }
 
 // The box query: ids written and entries read in `tally`.
@@ -77,21 +97,14 @@ pub extern "C" fn bf_scene_polygons_near(
     ensures { Lists (polygons_near_of (site_of head.now counts.now) (tables points.now boxes.now polygons.now owners.now starts.now items.now)
         (box_at b.now 0) marks.old epoch.old ids.old) result marks.new epoch.new ids.new tally.new }
 {
-    let a = scene::polygons_near(
-        answers::site_of(head, counts),
-        points,
-        boxes,
-        polygons,
-        owners,
-        starts,
-        items,
+    let a = scene_of(head, counts, points, boxes, polygons, owners, starts, items).polygons_near(
         answers::box_of(b),
         marks,
         epoch,
         ids,
     );
     answers::put_counts(tally, a);
-    answers::listed_status(a)
+    refusal::status(a)
 }
 
 // The box query worked out from points and polygons alone: ids written and entries counted in `tally`. Width and height of the head, and the number of items, are
@@ -117,7 +130,7 @@ pub extern "C" fn bf_scene_polygons_near_plain(
         ids,
     );
     answers::put_counts(tally, a);
-    answers::listed_status(a)
+    refusal::status(a)
 }
 
 // How many ids the cell of a point has.
@@ -135,21 +148,14 @@ pub extern "C" fn bf_scene_items_at_number(
     y: f64,
     number: &mut u64,
 ) -> u32
-    ensures value { result ≡ count_status (items_at_number_of (site_of head.now counts.now) (tables points.now boxes.now polygons.now owners.now starts.now items.now) (vec x y)) }
-    ensures number_after { number.new ≡ count_value (items_at_number_of (site_of head.now counts.now) (tables points.now boxes.now polygons.now owners.now starts.now items.now) (vec x y)) }
+    ensures value { result ≡ status_of (items_at_number_of (site_of head.now counts.now) (tables points.now boxes.now polygons.now owners.now starts.now items.now) (vec x y)) }
+    ensures number_after { number.new ≡ number_value (items_at_number_of (site_of head.now counts.now) (tables points.now boxes.now polygons.now owners.now starts.now items.now) (vec x y)) }
 {
-    let a = scene::items_at_number(
-        answers::site_of(head, counts),
-        points,
-        boxes,
-        polygons,
-        owners,
-        starts,
-        items,
+    let a = scene_of(head, counts, points, boxes, polygons, owners, starts, items).items_at_number(
         Vec2 { x, y },
     );
     *number = answers::count_value(a);
-    answers::count_status(a)
+    refusal::status(a)
 }
 
 // The i-th of them; 0 past the last and on refusal.
@@ -169,17 +175,11 @@ pub extern "C" fn bf_scene_item_at(
 ) -> u32
     ensures { result ≡ get_or (items_at_of (site_of head.now counts.now) (tables points.now boxes.now polygons.now owners.now starts.now items.now) (vec x y)) i 0 }
 {
-    lists::at32(
-        scene::items_at(
-            answers::site_of(head, counts),
-            points,
-            boxes,
-            polygons,
-            owners,
-            starts,
-            items,
-            Vec2 { x, y },
-        ),
+    lists::at(
+        scene_of(head, counts, points, boxes, polygons, owners, starts, items).items_at(Vec2 {
+            x,
+            y,
+        }),
         i,
     )
 }
@@ -199,21 +199,15 @@ pub extern "C" fn bf_scene_polygon_at(
     y: f64,
     found: &mut [u32; 2],
 ) -> u32
-    ensures value { result ≡ found_status (polygon_at_of (site_of head.now counts.now) (tables points.now boxes.now polygons.now owners.now starts.now items.now) (vec x y)) }
+    ensures value { result ≡ status_of (polygon_at_of (site_of head.now counts.now) (tables points.now boxes.now polygons.now owners.now starts.now items.now) (vec x y)) }
     ensures found_after { found.new ≡ found_two (polygon_at_of (site_of head.now counts.now) (tables points.now boxes.now polygons.now owners.now starts.now items.now) (vec x y)) }
 {
-    let a = scene::polygon_at(
-        answers::site_of(head, counts),
-        points,
-        boxes,
-        polygons,
-        owners,
-        starts,
-        items,
-        Vec2 { x, y },
-    );
+    let a = scene_of(head, counts, points, boxes, polygons, owners, starts, items).polygon_at(Vec2 {
+        x,
+        y,
+    });
     answers::put_found(found, a);
-    answers::found_status(a)
+    refusal::status(a)
 }
 
 // A ray, in mode 0 by the Rust's rule, in mode 1 to the lowest of the edges at one distance: its hit's distance in `t`; in `found` 1 and the edge, or zeros, and the cells
@@ -237,18 +231,11 @@ pub extern "C" fn bf_scene_cast_ray(
     t: &mut f64,
     found: &mut [u64; 3],
 ) -> u32
-    ensures value { result ≡ look_status (cast_ray_of (site_of head.now counts.now) (tables points.now boxes.now polygons.now owners.now starts.now items.now) (vec ox oy) (vec dx dy) length mode) }
+    ensures value { result ≡ status_of (cast_ray_of (site_of head.now counts.now) (tables points.now boxes.now polygons.now owners.now starts.now items.now) (vec ox oy) (vec dx dy) length mode) }
     ensures t_after { t.new ≡ look_distance (cast_ray_of (site_of head.now counts.now) (tables points.now boxes.now polygons.now owners.now starts.now items.now) (vec ox oy) (vec dx dy) length mode) }
     ensures found_after { found.new ≡ look_three (cast_ray_of (site_of head.now counts.now) (tables points.now boxes.now polygons.now owners.now starts.now items.now) (vec ox oy) (vec dx dy) length mode) }
 {
-    let a = scene::cast_ray(
-        answers::site_of(head, counts),
-        points,
-        boxes,
-        polygons,
-        owners,
-        starts,
-        items,
+    let a = scene_of(head, counts, points, boxes, polygons, owners, starts, items).cast_ray(
         Vec2 { x: ox, y: oy },
         Vec2 { x: dx, y: dy },
         length,
@@ -256,7 +243,7 @@ pub extern "C" fn bf_scene_cast_ray(
     );
     *t = answers::look_distance(a);
     answers::put_look(found, a);
-    answers::look_status(a)
+    refusal::status(a)
 }
 
 // The ends of an edge.
@@ -273,21 +260,12 @@ pub extern "C" fn bf_scene_edge(
     edge: u32,
     ends: &mut [f64; 4],
 ) -> u32
-    ensures value { result ≡ segment_status (edge_of (site_of head.now counts.now) (tables points.now boxes.now polygons.now owners.now starts.now items.now) edge) }
+    ensures value { result ≡ status_of (edge_of (site_of head.now counts.now) (tables points.now boxes.now polygons.now owners.now starts.now items.now) edge) }
     ensures ends_after { ends.new ≡ segment_four (edge_of (site_of head.now counts.now) (tables points.now boxes.now polygons.now owners.now starts.now items.now) edge) }
 {
-    let a = scene::edge(
-        answers::site_of(head, counts),
-        points,
-        boxes,
-        polygons,
-        owners,
-        starts,
-        items,
-        edge,
-    );
+    let a = scene_of(head, counts, points, boxes, polygons, owners, starts, items).edge(edge);
     answers::put_ends(ends, a);
-    answers::segment_status(a)
+    refusal::status(a)
 }
 
 // The number of the point where an edge ends.
@@ -304,21 +282,12 @@ pub extern "C" fn bf_scene_edge_end(
     edge: u32,
     end: &mut u32,
 ) -> u32
-    ensures value { result ≡ index_status (edge_end_of (site_of head.now counts.now) (tables points.now boxes.now polygons.now owners.now starts.now items.now) edge) }
-    ensures end_after { end.new ≡ index_value (edge_end_of (site_of head.now counts.now) (tables points.now boxes.now polygons.now owners.now starts.now items.now) edge) }
+    ensures value { result ≡ status_of (edge_end_of (site_of head.now counts.now) (tables points.now boxes.now polygons.now owners.now starts.now items.now) edge) }
+    ensures end_after { end.new ≡ number_value (edge_end_of (site_of head.now counts.now) (tables points.now boxes.now polygons.now owners.now starts.now items.now) edge) }
 {
-    let a = scene::edge_end(
-        answers::site_of(head, counts),
-        points,
-        boxes,
-        polygons,
-        owners,
-        starts,
-        items,
-        edge,
-    );
+    let a = scene_of(head, counts, points, boxes, polygons, owners, starts, items).edge_end(edge);
     *end = answers::index_value(a);
-    answers::index_status(a)
+    refusal::status(a)
 }
 
 // The polygon that owns an edge.
@@ -335,21 +304,12 @@ pub extern "C" fn bf_scene_edge_owner(
     edge: u32,
     owner: &mut u32,
 ) -> u32
-    ensures value { result ≡ index_status (edge_owner_of (site_of head.now counts.now) (tables points.now boxes.now polygons.now owners.now starts.now items.now) edge) }
-    ensures owner_after { owner.new ≡ index_value (edge_owner_of (site_of head.now counts.now) (tables points.now boxes.now polygons.now owners.now starts.now items.now) edge) }
+    ensures value { result ≡ status_of (edge_owner_of (site_of head.now counts.now) (tables points.now boxes.now polygons.now owners.now starts.now items.now) edge) }
+    ensures owner_after { owner.new ≡ number_value (edge_owner_of (site_of head.now counts.now) (tables points.now boxes.now polygons.now owners.now starts.now items.now) edge) }
 {
-    let a = scene::edge_owner(
-        answers::site_of(head, counts),
-        points,
-        boxes,
-        polygons,
-        owners,
-        starts,
-        items,
-        edge,
-    );
+    let a = scene_of(head, counts, points, boxes, polygons, owners, starts, items).edge_owner(edge);
     *owner = answers::index_value(a);
-    answers::index_status(a)
+    refusal::status(a)
 }
 
 // A polygon: its first point and their number, and its box.
@@ -367,23 +327,14 @@ pub extern "C" fn bf_scene_polygon(
     place: &mut [u32; 2],
     b: &mut [f64; 4],
 ) -> u32
-    ensures value { result ≡ shape_status (polygon_of (site_of head.now counts.now) (tables points.now boxes.now polygons.now owners.now starts.now items.now) id) }
+    ensures value { result ≡ status_of (polygon_of (site_of head.now counts.now) (tables points.now boxes.now polygons.now owners.now starts.now items.now) id) }
     ensures place_after { place.new ≡ shape_place (polygon_of (site_of head.now counts.now) (tables points.now boxes.now polygons.now owners.now starts.now items.now) id) }
     ensures b_after { b.new ≡ shape_four (polygon_of (site_of head.now counts.now) (tables points.now boxes.now polygons.now owners.now starts.now items.now) id) }
 {
-    let a = scene::polygon(
-        answers::site_of(head, counts),
-        points,
-        boxes,
-        polygons,
-        owners,
-        starts,
-        items,
-        id,
-    );
+    let a = scene_of(head, counts, points, boxes, polygons, owners, starts, items).polygon(id);
     answers::put_place(place, a);
     answers::put_box(b, a);
-    answers::shape_status(a)
+    refusal::status(a)
 }
 
 // How many points a polygon has.
@@ -400,21 +351,14 @@ pub extern "C" fn bf_scene_polygon_vertices_number(
     id: u32,
     number: &mut u64,
 ) -> u32
-    ensures value { result ≡ count_status (polygon_vertices_number_of (site_of head.now counts.now) (tables points.now boxes.now polygons.now owners.now starts.now items.now) id) }
-    ensures number_after { number.new ≡ count_value (polygon_vertices_number_of (site_of head.now counts.now) (tables points.now boxes.now polygons.now owners.now starts.now items.now) id) }
+    ensures value { result ≡ status_of (polygon_vertices_number_of (site_of head.now counts.now) (tables points.now boxes.now polygons.now owners.now starts.now items.now) id) }
+    ensures number_after { number.new ≡ number_value (polygon_vertices_number_of (site_of head.now counts.now) (tables points.now boxes.now polygons.now owners.now starts.now items.now) id) }
 {
-    let a = scene::polygon_vertices_number(
-        answers::site_of(head, counts),
-        points,
-        boxes,
-        polygons,
-        owners,
-        starts,
-        items,
-        id,
-    );
+    let a = scene_of(
+        head, counts, points, boxes, polygons, owners, starts, items,
+    ).polygon_vertices_number(id);
     *number = answers::count_value(a);
-    answers::count_status(a)
+    refusal::status(a)
 }
 
 // The i-th number of a polygon's points, x and y by turns; NaN past the last and on refusal.
@@ -433,17 +377,8 @@ pub extern "C" fn bf_scene_polygon_vertex(
 ) -> f64
     ensures { result ≡ get_or (polygon_vertices_of (site_of head.now counts.now) (tables points.now boxes.now polygons.now owners.now starts.now items.now) id) i nan }
 {
-    lists::at64(
-        scene::polygon_vertices(
-            answers::site_of(head, counts),
-            points,
-            boxes,
-            polygons,
-            owners,
-            starts,
-            items,
-            id,
-        ),
+    lists::at(
+        scene_of(head, counts, points, boxes, polygons, owners, starts, items).polygon_vertices(id),
         i,
     )
 }
@@ -461,20 +396,12 @@ pub extern "C" fn bf_scene_bounds(
     items: &[u32],
     b: &mut [f64; 4],
 ) -> u32
-    ensures value { result ≡ bounds_status (bounds_of (site_of head.now counts.now) (tables points.now boxes.now polygons.now owners.now starts.now items.now)) }
+    ensures value { result ≡ status_of (bounds_of (site_of head.now counts.now) (tables points.now boxes.now polygons.now owners.now starts.now items.now)) }
     ensures b_after { b.new ≡ bounds_four (bounds_of (site_of head.now counts.now) (tables points.now boxes.now polygons.now owners.now starts.now items.now)) }
 {
-    let a = scene::bounds(
-        answers::site_of(head, counts),
-        points,
-        boxes,
-        polygons,
-        owners,
-        starts,
-        items,
-    );
+    let a = scene_of(head, counts, points, boxes, polygons, owners, starts, items).bounds();
     answers::put_bounds(b, a);
-    answers::bounds_status(a)
+    refusal::status(a)
 }
 
 // The width.
@@ -490,20 +417,12 @@ pub extern "C" fn bf_scene_width(
     items: &[u32],
     width: &mut f64,
 ) -> u32
-    ensures value { result ≡ extent_status (width_of (site_of head.now counts.now) (tables points.now boxes.now polygons.now owners.now starts.now items.now)) }
+    ensures value { result ≡ status_of (width_of (site_of head.now counts.now) (tables points.now boxes.now polygons.now owners.now starts.now items.now)) }
     ensures width_after { width.new ≡ extent_value (width_of (site_of head.now counts.now) (tables points.now boxes.now polygons.now owners.now starts.now items.now)) }
 {
-    let a = scene::width(
-        answers::site_of(head, counts),
-        points,
-        boxes,
-        polygons,
-        owners,
-        starts,
-        items,
-    );
+    let a = scene_of(head, counts, points, boxes, polygons, owners, starts, items).width();
     *width = answers::extent_value(a);
-    answers::extent_status(a)
+    refusal::status(a)
 }
 
 // The height.
@@ -519,20 +438,12 @@ pub extern "C" fn bf_scene_height(
     items: &[u32],
     height: &mut f64,
 ) -> u32
-    ensures value { result ≡ extent_status (height_of (site_of head.now counts.now) (tables points.now boxes.now polygons.now owners.now starts.now items.now)) }
+    ensures value { result ≡ status_of (height_of (site_of head.now counts.now) (tables points.now boxes.now polygons.now owners.now starts.now items.now)) }
     ensures height_after { height.new ≡ extent_value (height_of (site_of head.now counts.now) (tables points.now boxes.now polygons.now owners.now starts.now items.now)) }
 {
-    let a = scene::height(
-        answers::site_of(head, counts),
-        points,
-        boxes,
-        polygons,
-        owners,
-        starts,
-        items,
-    );
+    let a = scene_of(head, counts, points, boxes, polygons, owners, starts, items).height();
     *height = answers::extent_value(a);
-    answers::extent_status(a)
+    refusal::status(a)
 }
 
 // Columns and rows.
@@ -548,20 +459,12 @@ pub extern "C" fn bf_scene_dims(
     items: &[u32],
     dims: &mut [u32; 2],
 ) -> u32
-    ensures value { result ≡ dims_status (dims_of (site_of head.now counts.now) (tables points.now boxes.now polygons.now owners.now starts.now items.now)) }
+    ensures value { result ≡ status_of (dims_of (site_of head.now counts.now) (tables points.now boxes.now polygons.now owners.now starts.now items.now)) }
     ensures dims_after { dims.new ≡ dims_two (dims_of (site_of head.now counts.now) (tables points.now boxes.now polygons.now owners.now starts.now items.now)) }
 {
-    let a = scene::dims(
-        answers::site_of(head, counts),
-        points,
-        boxes,
-        polygons,
-        owners,
-        starts,
-        items,
-    );
+    let a = scene_of(head, counts, points, boxes, polygons, owners, starts, items).dims();
     answers::put_dims(dims, a);
-    answers::dims_status(a)
+    refusal::status(a)
 }
 
 // New stamps.
@@ -580,17 +483,9 @@ pub extern "C" fn bf_scene_new_stamps(
 ) -> u32
     ensures { Anew (new_stamps_of (site_of head.now counts.now) (tables points.now boxes.now polygons.now owners.now starts.now items.now) marks.old epoch.old) result marks.new epoch.new }
 {
-    answers::stamps_status(scene::new_stamps(
-        answers::site_of(head, counts),
-        points,
-        boxes,
-        polygons,
-        owners,
-        starts,
-        items,
-        marks,
-        epoch,
-    ))
+    refusal::status(scene_of(
+        head, counts, points, boxes, polygons, owners, starts, items,
+    ).new_stamps(marks, epoch))
 }
 
 // Builds a site into the lent tables. The head is left in `head` and `counts`, zeros on refusal.
@@ -617,7 +512,7 @@ pub extern "C" fn bf_scene_new(
     );
     answers::put_head(head, a);
     answers::put_head_counts(counts, a);
-    answers::made_status(a)
+    refusal::status(a)
 }
 
 // Draws a random site of `number` polygons and builds it into the lent tables. The head is left in `head` and `counts`, zeros on refusal.
@@ -648,5 +543,5 @@ pub extern "C" fn bf_scene_random(
     let a = random::random(config, points, boxes, polygons, owners, starts, items);
     answers::put_head(head, a);
     answers::put_head_counts(counts, a);
-    answers::made_status(a)
+    refusal::status(a)
 }

@@ -3,7 +3,7 @@
 // of numbers included: `bf_inner_bounds` reads every box, the others a number or a few. Every content of every slice is allowed: past a table's end a number
 // is 0 and a float is NaN. The status is always 0. `bf_inner_items_at_number` is the probe's, of a grid, and the oracle links both: ours is
 // `bf_inner_site_items_at_number`.
-ghost use Rattle.std.specs.Prelude.{◌≡◌, [], ◌∷◌, length};
+ghost use Rattle.std.specs.Prelude.{◌≡◌, [], ◌∷◌, length, Ok};
 ghost use Rattle.geom.specs.Vec.{vec};
 ghost use Rattle.grid.specs.Boxes.{box_at};
 ghost use Rattle.grid.specs.Query.{items_at};
@@ -11,13 +11,13 @@ ghost use Rattle.extent.specs.Boxes.{boxes_of};
 ghost use Rattle.extent.specs.Extent.{bounds_of};
 ghost use Rattle.site.specs.Tables.{first_of, len_of, owner_at, edge_end_of, edge_of};
 ghost use Rattle.site.specs.Domain.{load_of, load_point_of};
-ghost use Rattle.scene.specs.Answers.{segment_from};
 ghost use Rattle.build.specs.Stored.{box_numbers};
 ghost use Rattle.scene.specs.Numbers.{segment_four};
 ghost use Rattle.answers.specs.Head.{site_of};
 
 use geom::Vec2;
-use scene::{GridDims, Region, Segment, Shape};
+use grid::Dims;
+use scene::Polygon;
 
 // How many ids the cell of a point has.
 #[unsafe(no_mangle)]
@@ -37,10 +37,9 @@ pub extern "C" fn bf_inner_site_items_at_number(
     ensures value { result ≡ 0 }
     ensures number_after { number.new ≡ length (items_at (site_of head.now counts.now).grid (load_point_of (vec x y)) starts.now items.now) }
 {
-    let s = answers::site_of(head, counts);
-    let g = s.grid;
-    let n = grid::items_at_number(g, starts, items, site::load_point(Vec2 { x, y }));
-    *number = n as u64;
+    let g = answers::site_of(head, counts).grid;
+    let p = site::load_point(Vec2 { x, y });
+    *number = grid::items_at_number(g, starts, items, p) as u64;
     0
 }
 
@@ -59,12 +58,9 @@ pub extern "C" fn bf_inner_edge(
     ends: &mut [f64; 4],
 ) -> u32
     ensures value { result ≡ 0 }
-    ensures ends_after { ends.new ≡ segment_four (segment_from (edge_of points.now polygons.now owners.now edge)) }
+    ensures ends_after { ends.new ≡ segment_four (Ok (edge_of points.now polygons.now owners.now edge)) }
 {
-    let e = site::edge(points, polygons, owners, edge);
-    let a = e.a;
-    let b = e.b;
-    answers::put_ends(ends, Segment::Ends { a, b });
+    answers::put_ends(ends, Ok(site::edge(points, polygons, owners, edge)));
     0
 }
 
@@ -106,7 +102,7 @@ pub extern "C" fn bf_inner_edge_owner(
     ensures value { result ≡ 0 }
     ensures owner_after { owner.new ≡ owner_at owners.now edge }
 {
-    *owner = site::owner_at(owners, lists::wide(edge));
+    *owner = site::owner_at(owners, edge as usize);
     0
 }
 
@@ -129,11 +125,11 @@ pub extern "C" fn bf_inner_polygon(
     ensures place_after { place.new ≡ first_of polygons.now id ∷ len_of polygons.now id ∷ [] }
     ensures b_after { b.new ≡ box_numbers (box_at boxes.now id) }
 {
-    let a = Shape::Polygon {
+    let a = Ok(Polygon {
         first: site::first_of(polygons, id),
         len: site::len_of(polygons, id),
-        aabb: grid::box_at(boxes, lists::wide(id)),
-    };
+        aabb: grid::box_at(boxes, id as usize),
+    });
     answers::put_place(place, a);
     answers::put_box(b, a);
     0
@@ -156,8 +152,7 @@ pub extern "C" fn bf_inner_polygon_vertices_number(
     ensures value { result ≡ 0 }
     ensures number_after { number.new ≡ len_of polygons.now id }
 {
-    let n = lists::wide(site::len_of(polygons, id));
-    *number = n as u64;
+    *number = site::len_of(polygons, id) as u64;
     0
 }
 
@@ -178,9 +173,9 @@ pub extern "C" fn bf_inner_bounds(
     ensures b_after { b.new ≡ box_numbers (bounds_of (load_of (site_of head.now counts.now).width) (load_of (site_of head.now counts.now).height) (boxes_of boxes.now (site_of head.now counts.now).polygons)) }
 {
     let s = answers::site_of(head, counts);
-    let count = lists::wide(s.polygons);
+    let count = s.polygons as usize;
     let a = extent::bounds_of(site::load(s.width), site::load(s.height), boxes, count);
-    answers::put_bounds(b, Region::Of(a));
+    answers::put_bounds(b, Ok(a));
     0
 }
 
@@ -200,8 +195,7 @@ pub extern "C" fn bf_inner_width(
     ensures value { result ≡ 0 }
     ensures width_after { width.new ≡ load_of (site_of head.now counts.now).width }
 {
-    let s = answers::site_of(head, counts);
-    *width = site::load(s.width);
+    *width = site::load(answers::site_of(head, counts).width);
     0
 }
 
@@ -221,8 +215,7 @@ pub extern "C" fn bf_inner_height(
     ensures value { result ≡ 0 }
     ensures height_after { height.new ≡ load_of (site_of head.now counts.now).height }
 {
-    let s = answers::site_of(head, counts);
-    *height = site::load(s.height);
+    *height = site::load(answers::site_of(head, counts).height);
     0
 }
 
@@ -242,13 +235,13 @@ pub extern "C" fn bf_inner_dims(
     ensures value { result ≡ 0 }
     ensures dims_after { dims.new ≡ (site_of head.now counts.now).grid.cols ∷ (site_of head.now counts.now).grid.rows ∷ [] }
 {
-    let s = answers::site_of(head, counts);
+    let g = answers::site_of(head, counts).grid;
     answers::put_dims(
         dims,
-        GridDims::Of {
-            cols: s.grid.cols,
-            rows: s.grid.rows,
-        },
+        Ok(Dims {
+            cols: g.cols,
+            rows: g.rows,
+        }),
     );
     0
 }

@@ -1,9 +1,8 @@
 // The part of the archive without the tests, for comparing and timing alone: the functions of crates/exports_scene/src/inner.rt.
-ghost use Rattle.std.specs.Prelude.{◌≡◌};
+ghost use Rattle.std.specs.Prelude.{◌≡◌, Ok};
 ghost use Rattle.geom.specs.Vec.{vec};
 ghost use Rattle.sight.specs.Holding.{polygon_at_of};
 ghost use Rattle.sight.specs.Casting.{cast_ray_of};
-ghost use Rattle.scene.specs.Answers.{look_from};
 ghost use Rattle.scene.specs.Numbers.{whose_two, look_distance, look_three};
 ghost use Rattle.answers.specs.Head.{site_of};
 ghost use Rattle.exports_scene.specs.Many.{held_of, hits_of};
@@ -52,8 +51,8 @@ pub extern "C" fn bf_inner_cast_ray(
     found: &mut [u64; 3],
 ) -> u32
     ensures value { result ≡ 0 }
-    ensures t_after { t.new ≡ look_distance (look_from (cast_ray_of (site_of head.now counts.now).grid points.now boxes.now polygons.now starts.now items.now (vec ox oy) (vec dx dy) length mode)) }
-    ensures found_after { found.new ≡ look_three (look_from (cast_ray_of (site_of head.now counts.now).grid points.now boxes.now polygons.now starts.now items.now (vec ox oy) (vec dx dy) length mode)) }
+    ensures t_after { t.new ≡ look_distance (Ok (cast_ray_of (site_of head.now counts.now).grid points.now boxes.now polygons.now starts.now items.now (vec ox oy) (vec dx dy) length mode)) }
+    ensures found_after { found.new ≡ look_three (Ok (cast_ray_of (site_of head.now counts.now).grid points.now boxes.now polygons.now starts.now items.now (vec ox oy) (vec dx dy) length mode)) }
 {
     exports_scene::inner::bf_inner_cast_ray(
         head, counts, points, boxes, polygons, owners, starts, items, ox, oy, dx, dy, length, mode,

@@ -5,6 +5,7 @@
 pub mod inner;
 pub mod reads;
 
+ghost use Rattle.refusal.specs.Numbers.{status_of};
 ghost use Rattle.std.specs.Prelude.{◌≡◌, get_or};
 ghost use Rattle.std.specs.Float.{nan};
 ghost use Rattle.lists.specs.Lists.{bit};
@@ -19,7 +20,7 @@ ghost use Rattle.scene.specs.Stamping.{polygons_near_of, new_stamps_of};
 ghost use Rattle.grid.specs.Numbers.{Lists};
 ghost use Rattle.near.specs.Outcome.{plain_of};
 ghost use Rattle.near.specs.Numbers as plain;
-ghost use Rattle.scene.specs.Numbers.{extent_status, extent_value, bounds_status, bounds_four, dims_status, dims_two, shape_status, shape_place, shape_four, segment_status, segment_four, index_status, index_value, count_status, count_value, found_status, found_two, look_status, look_distance, look_three};
+ghost use Rattle.scene.specs.Numbers.{extent_value, bounds_four, dims_two, shape_place, shape_four, segment_four, number_value, found_two, look_distance, look_three};
 ghost use Rattle.answers.specs.Head.{site_of};
 ghost use Rattle.answers.specs.Outcomes.{Anew, Builds};
 ghost use Rattle.exports_scene.specs.Settings.{config_of};
@@ -99,8 +100,8 @@ pub extern "C" fn bf_scene_items_at_number(
     y: f64,
     number: &mut u64,
 ) -> u32
-    ensures value { result ≡ count_status (items_at_number_of (site_of head.now counts.now) (tables points.now boxes.now polygons.now owners.now starts.now items.now) (vec x y)) }
-    ensures number_after { number.new ≡ count_value (items_at_number_of (site_of head.now counts.now) (tables points.now boxes.now polygons.now owners.now starts.now items.now) (vec x y)) }
+    ensures value { result ≡ status_of (items_at_number_of (site_of head.now counts.now) (tables points.now boxes.now polygons.now owners.now starts.now items.now) (vec x y)) }
+    ensures number_after { number.new ≡ number_value (items_at_number_of (site_of head.now counts.now) (tables points.now boxes.now polygons.now owners.now starts.now items.now) (vec x y)) }
 {
     exports_scene::bf_scene_items_at_number(
         head, counts, points, boxes, polygons, owners, starts, items, x, y, number,
@@ -144,7 +145,7 @@ pub extern "C" fn bf_scene_polygon_at(
     y: f64,
     found: &mut [u32; 2],
 ) -> u32
-    ensures value { result ≡ found_status (polygon_at_of (site_of head.now counts.now) (tables points.now boxes.now polygons.now owners.now starts.now items.now) (vec x y)) }
+    ensures value { result ≡ status_of (polygon_at_of (site_of head.now counts.now) (tables points.now boxes.now polygons.now owners.now starts.now items.now) (vec x y)) }
     ensures found_after { found.new ≡ found_two (polygon_at_of (site_of head.now counts.now) (tables points.now boxes.now polygons.now owners.now starts.now items.now) (vec x y)) }
 {
     exports_scene::bf_scene_polygon_at(
@@ -173,7 +174,7 @@ pub extern "C" fn bf_scene_cast_ray(
     t: &mut f64,
     found: &mut [u64; 3],
 ) -> u32
-    ensures value { result ≡ look_status (cast_ray_of (site_of head.now counts.now) (tables points.now boxes.now polygons.now owners.now starts.now items.now) (vec ox oy) (vec dx dy) length mode) }
+    ensures value { result ≡ status_of (cast_ray_of (site_of head.now counts.now) (tables points.now boxes.now polygons.now owners.now starts.now items.now) (vec ox oy) (vec dx dy) length mode) }
     ensures t_after { t.new ≡ look_distance (cast_ray_of (site_of head.now counts.now) (tables points.now boxes.now polygons.now owners.now starts.now items.now) (vec ox oy) (vec dx dy) length mode) }
     ensures found_after { found.new ≡ look_three (cast_ray_of (site_of head.now counts.now) (tables points.now boxes.now polygons.now owners.now starts.now items.now) (vec ox oy) (vec dx dy) length mode) }
 {
@@ -197,7 +198,7 @@ pub extern "C" fn bf_scene_edge(
     edge: u32,
     ends: &mut [f64; 4],
 ) -> u32
-    ensures value { result ≡ segment_status (edge_of (site_of head.now counts.now) (tables points.now boxes.now polygons.now owners.now starts.now items.now) edge) }
+    ensures value { result ≡ status_of (edge_of (site_of head.now counts.now) (tables points.now boxes.now polygons.now owners.now starts.now items.now) edge) }
     ensures ends_after { ends.new ≡ segment_four (edge_of (site_of head.now counts.now) (tables points.now boxes.now polygons.now owners.now starts.now items.now) edge) }
 {
     exports_scene::bf_scene_edge(
@@ -219,8 +220,8 @@ pub extern "C" fn bf_scene_edge_end(
     edge: u32,
     end: &mut u32,
 ) -> u32
-    ensures value { result ≡ index_status (edge_end_of (site_of head.now counts.now) (tables points.now boxes.now polygons.now owners.now starts.now items.now) edge) }
-    ensures end_after { end.new ≡ index_value (edge_end_of (site_of head.now counts.now) (tables points.now boxes.now polygons.now owners.now starts.now items.now) edge) }
+    ensures value { result ≡ status_of (edge_end_of (site_of head.now counts.now) (tables points.now boxes.now polygons.now owners.now starts.now items.now) edge) }
+    ensures end_after { end.new ≡ number_value (edge_end_of (site_of head.now counts.now) (tables points.now boxes.now polygons.now owners.now starts.now items.now) edge) }
 {
     exports_scene::bf_scene_edge_end(
         head, counts, points, boxes, polygons, owners, starts, items, edge, end,
@@ -241,8 +242,8 @@ pub extern "C" fn bf_scene_edge_owner(
     edge: u32,
     owner: &mut u32,
 ) -> u32
-    ensures value { result ≡ index_status (edge_owner_of (site_of head.now counts.now) (tables points.now boxes.now polygons.now owners.now starts.now items.now) edge) }
-    ensures owner_after { owner.new ≡ index_value (edge_owner_of (site_of head.now counts.now) (tables points.now boxes.now polygons.now owners.now starts.now items.now) edge) }
+    ensures value { result ≡ status_of (edge_owner_of (site_of head.now counts.now) (tables points.now boxes.now polygons.now owners.now starts.now items.now) edge) }
+    ensures owner_after { owner.new ≡ number_value (edge_owner_of (site_of head.now counts.now) (tables points.now boxes.now polygons.now owners.now starts.now items.now) edge) }
 {
     exports_scene::bf_scene_edge_owner(
         head, counts, points, boxes, polygons, owners, starts, items, edge, owner,
@@ -264,7 +265,7 @@ pub extern "C" fn bf_scene_polygon(
     place: &mut [u32; 2],
     b: &mut [f64; 4],
 ) -> u32
-    ensures value { result ≡ shape_status (polygon_of (site_of head.now counts.now) (tables points.now boxes.now polygons.now owners.now starts.now items.now) id) }
+    ensures value { result ≡ status_of (polygon_of (site_of head.now counts.now) (tables points.now boxes.now polygons.now owners.now starts.now items.now) id) }
     ensures place_after { place.new ≡ shape_place (polygon_of (site_of head.now counts.now) (tables points.now boxes.now polygons.now owners.now starts.now items.now) id) }
     ensures b_after { b.new ≡ shape_four (polygon_of (site_of head.now counts.now) (tables points.now boxes.now polygons.now owners.now starts.now items.now) id) }
 {
@@ -287,8 +288,8 @@ pub extern "C" fn bf_scene_polygon_vertices_number(
     id: u32,
     number: &mut u64,
 ) -> u32
-    ensures value { result ≡ count_status (polygon_vertices_number_of (site_of head.now counts.now) (tables points.now boxes.now polygons.now owners.now starts.now items.now) id) }
-    ensures number_after { number.new ≡ count_value (polygon_vertices_number_of (site_of head.now counts.now) (tables points.now boxes.now polygons.now owners.now starts.now items.now) id) }
+    ensures value { result ≡ status_of (polygon_vertices_number_of (site_of head.now counts.now) (tables points.now boxes.now polygons.now owners.now starts.now items.now) id) }
+    ensures number_after { number.new ≡ number_value (polygon_vertices_number_of (site_of head.now counts.now) (tables points.now boxes.now polygons.now owners.now starts.now items.now) id) }
 {
     exports_scene::bf_scene_polygon_vertices_number(
         head, counts, points, boxes, polygons, owners, starts, items, id, number,
@@ -329,7 +330,7 @@ pub extern "C" fn bf_scene_bounds(
     items: &[u32],
     b: &mut [f64; 4],
 ) -> u32
-    ensures value { result ≡ bounds_status (bounds_of (site_of head.now counts.now) (tables points.now boxes.now polygons.now owners.now starts.now items.now)) }
+    ensures value { result ≡ status_of (bounds_of (site_of head.now counts.now) (tables points.now boxes.now polygons.now owners.now starts.now items.now)) }
     ensures b_after { b.new ≡ bounds_four (bounds_of (site_of head.now counts.now) (tables points.now boxes.now polygons.now owners.now starts.now items.now)) }
 {
     exports_scene::bf_scene_bounds(
@@ -350,7 +351,7 @@ pub extern "C" fn bf_scene_width(
     items: &[u32],
     width: &mut f64,
 ) -> u32
-    ensures value { result ≡ extent_status (width_of (site_of head.now counts.now) (tables points.now boxes.now polygons.now owners.now starts.now items.now)) }
+    ensures value { result ≡ status_of (width_of (site_of head.now counts.now) (tables points.now boxes.now polygons.now owners.now starts.now items.now)) }
     ensures width_after { width.new ≡ extent_value (width_of (site_of head.now counts.now) (tables points.now boxes.now polygons.now owners.now starts.now items.now)) }
 {
     exports_scene::bf_scene_width(
@@ -371,7 +372,7 @@ pub extern "C" fn bf_scene_height(
     items: &[u32],
     height: &mut f64,
 ) -> u32
-    ensures value { result ≡ extent_status (height_of (site_of head.now counts.now) (tables points.now boxes.now polygons.now owners.now starts.now items.now)) }
+    ensures value { result ≡ status_of (height_of (site_of head.now counts.now) (tables points.now boxes.now polygons.now owners.now starts.now items.now)) }
     ensures height_after { height.new ≡ extent_value (height_of (site_of head.now counts.now) (tables points.now boxes.now polygons.now owners.now starts.now items.now)) }
 {
     exports_scene::bf_scene_height(
@@ -392,7 +393,7 @@ pub extern "C" fn bf_scene_dims(
     items: &[u32],
     dims: &mut [u32; 2],
 ) -> u32
-    ensures value { result ≡ dims_status (dims_of (site_of head.now counts.now) (tables points.now boxes.now polygons.now owners.now starts.now items.now)) }
+    ensures value { result ≡ status_of (dims_of (site_of head.now counts.now) (tables points.now boxes.now polygons.now owners.now starts.now items.now)) }
     ensures dims_after { dims.new ≡ dims_two (dims_of (site_of head.now counts.now) (tables points.now boxes.now polygons.now owners.now starts.now items.now)) }
 {
     exports_scene::bf_scene_dims(

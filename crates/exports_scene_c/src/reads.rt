@@ -1,5 +1,5 @@
 // Questions that only read, without the tests, for comparing and timing alone: the functions of crates/exports_scene/src/reads.rt.
-ghost use Rattle.std.specs.Prelude.{◌≡◌, [], ◌∷◌, length};
+ghost use Rattle.std.specs.Prelude.{◌≡◌, [], ◌∷◌, length, Ok};
 ghost use Rattle.geom.specs.Vec.{vec};
 ghost use Rattle.grid.specs.Boxes.{box_at};
 ghost use Rattle.grid.specs.Query.{items_at};
@@ -7,7 +7,6 @@ ghost use Rattle.extent.specs.Boxes.{boxes_of};
 ghost use Rattle.extent.specs.Extent.{bounds_of};
 ghost use Rattle.site.specs.Tables.{first_of, len_of, owner_at, edge_end_of, edge_of};
 ghost use Rattle.site.specs.Domain.{load_of, load_point_of};
-ghost use Rattle.scene.specs.Answers.{segment_from};
 ghost use Rattle.build.specs.Stored.{box_numbers};
 ghost use Rattle.scene.specs.Numbers.{segment_four};
 ghost use Rattle.answers.specs.Head.{site_of};
@@ -50,7 +49,7 @@ pub extern "C" fn bf_inner_edge(
     ends: &mut [f64; 4],
 ) -> u32
     ensures value { result ≡ 0 }
-    ensures ends_after { ends.new ≡ segment_four (segment_from (edge_of points.now polygons.now owners.now edge)) }
+    ensures ends_after { ends.new ≡ segment_four (Ok (edge_of points.now polygons.now owners.now edge)) }
 {
     exports_scene::reads::bf_inner_edge(
         head, counts, points, boxes, polygons, owners, starts, items, edge, ends,

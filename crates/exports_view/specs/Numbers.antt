@@ -3,11 +3,12 @@ use Rattle.std.specs.Prelude.{◌≡◌, List, ℕ, get_or, Float}
 use Rattle.std.specs.Float.{nan}
 use Rattle.geom.specs.Vec.{vec}
 use Rattle.cone.specs.declared.ViewCone.{ViewCone}
-use Rattle.cone.specs.Outline.{outline_status, outline_points}
+use Rattle.cone.specs.Outline.{outline_points}
 use Rattle.cone.specs.Outline as own
 use Rattle.room.specs.declared.Rooms.{Rooms}
-use Rattle.visibility.specs.Numbers.{status_of, nine_of}
+use Rattle.visibility.specs.Numbers.{nine_of}
 use Rattle.view.specs.Outcome.{Lent, Outcome}
+use Rattle.refusal.specs.Numbers.{status_of}
 
 -- the post, range, direction and opening angle
 unfoldable pub cone_of : List Float → ViewCone
@@ -35,6 +36,6 @@ pub record Draws (o : Outcome) (status : ℕ) (left : Lent) (answer : List ℕ) 
 
 -- and of what a call of a cone's own outline does
 pub record Outlines (o : own.Outcome) (status : ℕ) (list : List Float) (number : ℕ) : Type 0 where
-  pub status_is : status ≡ outline_status o.answer
+  pub status_is : status ≡ status_of o.answer
   pub list_is : list ≡ o.list
   pub number_is : number ≡ outline_points o.answer

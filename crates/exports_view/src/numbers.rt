@@ -1,13 +1,14 @@
 // Cones, entries and answers as plain numbers.
 ghost use Rattle.std.specs.Prelude.{◌≡◌};
-ghost use Rattle.cone.specs.Outline.{outline_status, outline_points};
-ghost use Rattle.visibility.specs.Numbers.{status_of, nine_of};
+ghost use Rattle.cone.specs.Outline.{outline_points};
+ghost use Rattle.visibility.specs.Numbers.{nine_of};
 ghost use Rattle.exports_view.specs.Numbers.{cone_of, rooms_of};
 
-use cone::{Outlined, ViewCone};
+use cone::ViewCone;
 use geom::Vec2;
+use refusal::Refusal;
 use room::Rooms;
-use stages::Visibility;
+use stages::Shown;
 
 // The post's x and y, its range, direction and opening angle.
 pub fn cone_of(c: &[f64; 5]) -> ViewCone
@@ -38,54 +39,32 @@ pub fn rooms_of(k: &[u32; 9]) -> Rooms
     }
 }
 
-pub fn status(a: Visibility) -> u32
-    ensures { result ≡ status_of a }
-{
-    match a {
-        Visibility::Seen(_) => 0,
-        Visibility::Refused(n) => n,
-    }
-}
-
 // Blocked, full, points, visible ids, candidates, front edges, events, samples, refinements.
-pub fn put_shown(out: &mut [u64; 9], a: Visibility)
+pub fn put_shown(out: &mut [u64; 9], a: Result<Shown, Refusal>)
     ensures { out.new ≡ nine_of a }
 {
-    match a {
-        Visibility::Seen(s) => {
-            *out = [
-                s.blocked as u64,
-                s.full as u64,
-                s.points as u64,
-                s.visible as u64,
-                s.candidates as u64,
-                s.front_edges as u64,
-                s.events as u64,
-                s.rays_cast as u64,
-                s.refinements as u64,
-            ];
-        }
-        Visibility::Refused(_) => {
-            *out = [0, 0, 0, 0, 0, 0, 0, 0, 0];
-        }
-    }
-}
-
-pub fn outline_status(a: Outlined) -> u32
-    ensures { result ≡ outline_status a }
-{
-    match a {
-        Outlined::Points(_) => 0,
-        Outlined::Refused(n) => n,
-    }
+    *out = match a {
+        Ok(s) => [
+            s.blocked as u64,
+            s.full as u64,
+            s.points as u64,
+            s.visible as u64,
+            s.candidates as u64,
+            s.front_edges as u64,
+            s.events as u64,
+            s.rays_cast as u64,
+            s.refinements as u64,
+        ],
+        Err(_) => [0, 0, 0, 0, 0, 0, 0, 0, 0],
+    };
 }
 
 // How many points, 0 on refusal.
-pub fn outline_points(a: Outlined) -> u64
+pub fn outline_points(a: Result<usize, Refusal>) -> u64
     ensures { result ≡ outline_points a }
 {
     match a {
-        Outlined::Points(n) => n as u64,
-        Outlined::Refused(_) => 0,
+        Ok(n) => n as u64,
+        Err(_) => 0,
     }
 }

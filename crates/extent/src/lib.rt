@@ -26,8 +26,7 @@ const STRIDE: usize = 4;
 fn count(boxes: &[f64], n: usize) -> usize
     ensures { result ≡ min n (box_count boxes.now) }
 {
-    let most = boxes.len() / STRIDE;
-    if n < most { n } else { most }
+    n.min(boxes.len() / STRIDE)
 }
 
 // The bounds a, joined with the box b unless it is empty.
@@ -44,7 +43,6 @@ pub fn join_box(a: Aabb, b: Aabb) -> Aabb
 pub fn bounds_of(width: f64, height: f64, boxes: &[f64], n: usize) -> Aabb
     ensures { result ≡ bounds_of width height (boxes_of boxes.now n) }
 {
-    let m = count(boxes, n);
     let mut b = Aabb {
         min: Vec2 { x: 0.0, y: 0.0 },
         max: Vec2 {
@@ -52,10 +50,8 @@ pub fn bounds_of(width: f64, height: f64, boxes: &[f64], n: usize) -> Aabb
             y: height,
         },
     };
-    let mut i = 0;
-    while i < m {
+    for i in 0..count(boxes, n) {
         b = join_box(b, grid::box_at(boxes, i));
-        i += 1;
     }
     b
 }

@@ -1,7 +1,7 @@
 -- Laws of `Added`: nothing added, one thing after another, a front edge or an event written or only counted. Assumes nothing.
 use mathlib.Core.Path.{◌≡◌, sym, ap, ◌∙◌}
 use mathlib.Core.Logic.{inl, inr}
-use mathlib.Core.Bool.{Bool, true, false, ◌||◌, or-false, or_assoc}
+use mathlib.Core.Bool.{Bool, ◌||◌, or-false, or_assoc}
 use mathlib.Core.List.{List, [], ◌++◌, append-nil, append_assoc}
 use Prim.Native.Nat.{ℕ, ◌+◌, ◌≤◌, ◌<◌}
 use native.Mathlib.Nat.{zero-add, add-zero, add_assoc}
@@ -16,8 +16,7 @@ use Rattle.room.specs.Layout.{merged_f, events_f, edges_w, nearest_w, events_w, 
 use Rattle.room.specs.Records.{edges_in, events_in, EdgePut, EventPut}
 use Rattle.room.proofs.Kept.{edges_kept, events_kept}
 use Rattle.fan.specs.declared.Tally.{Tally}
-use Rattle.fan.specs.declared.End.{End}
-use Rattle.fan.specs.Fan.{Fanned, fanned, nothing, both, edge_fan, event_fan, end_fan, Added}
+use Rattle.fan.specs.Fan.{Fanned, fanned, nothing, both, edge_fan, event_fan, Added}
 
 -- ---- two answers together
 
@@ -133,12 +132,3 @@ module _ (k : Rooms) (e : Event) (t t' : Tally) (f : List Float) (w : List ℕ)
     floats_only = only_refl 0 (merged_f k) f;
     words_only = only_refl (edges_w k) (turns_w k) w;
   }
-
--- ---- an end, by whether the view holds it
-
-module _ {k : Rooms} (e : End) {t t' : Tally} {f f' : List Float} {w w' : List ℕ} where
-  pub end_held : e.held ≡ true → Added k (event_fan e.event) t f w t' f' w' → Added k (end_fan e) t f w t' f' w'
-  end_held h a = rw h a
-
-  pub end_unheld : e.held ≡ false → Added k nothing t f w t' f' w' → Added k (end_fan e) t f w t' f' w'
-  end_unheld h a = rw h a

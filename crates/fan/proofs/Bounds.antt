@@ -2,17 +2,16 @@
 -- edges are those of the polygons' points. Assumes nothing.
 use mathlib.Core.Bool.{Bool, true, false, cond}
 use mathlib.Core.List.{List, [], ◌∷◌}
+use Rattle.std.specs.Prelude.{Option, Some, None}
 use Prim.Native.Nat.{ℕ, zero, suc, ◌+◌, ◌*◌, ◌≤◌}
 use native.Mathlib.Nat.{le_refl}
 use native.Mathlib.Omega.{arith}
 use lib.ListN.{length, length-append}
 use lib.Ieee.{Float}
-use Rattle.lists.proofs.Counting.{length_cons_if, bit_le}
 use Rattle.site.specs.Tables.{first_of, len_of}
 use Rattle.cone.specs.declared.View.{View}
-use Rattle.fan.specs.declared.End.{End}
-use Rattle.fan.specs.declared.Seen.{Seen}
-use Rattle.fan.specs.declared.Seen.TheVariants.{Front, Back}
+use Rattle.room.specs.declared.Event.{Event}
+use Rattle.fan.specs.declared.FrontEdge.{FrontEdge}
 use Rattle.fan.specs.declared.Found.{Found}
 use Rattle.fan.specs.Fan.{Fanned, fanned, nothing, both, end_fan, touch_fan, seen_fan, side_fan, side_at, sides_fan, is_far, polygon_fan, fan_of}
 
@@ -33,17 +32,18 @@ most_both {g = g} {h = h} p q = record {
   events = omega (arith, length-append g.edges h.edges, length-append g.events h.events, p.events, q.events);
 }
 
-most_end : (e : End) → length (end_fan e).events ≤ 1
-most_end e = omega (arith, length_cons_if e.held e.event [], bit_le e.held)
+most_end : (e : Option Event) → length (end_fan e).events ≤ 1
+most_end (Some e) = le_refl 1
+most_end None = omega arith
 
-most_seen : (touch : Bool) (s : Seen) → Most 0 1 (both (touch_fan touch) (seen_fan s))
+most_seen : (touch : Bool) (s : Option FrontEdge) → Most 0 1 (both (touch_fan touch) (seen_fan s))
 unfolding both
-most_seen touch (Front e start stop) = record {
+most_seen touch (Some f) = record {
   candidates = le_refl 0;
   edges = le_refl 1;
-  events = omega (arith, length-append (end_fan start).events (end_fan stop).events, most_end start, most_end stop);
+  events = omega (arith, length-append (end_fan f.start).events (end_fan f.stop).events, most_end f.start, most_end f.stop);
 }
-most_seen touch Back = record { candidates = le_refl 0; edges = omega arith; events = le_refl 0 }
+most_seen touch None = record { candidates = le_refl 0; edges = omega arith; events = le_refl 0 }
 
 pub most_side : (f : Found) → Most 0 1 (side_fan f)
 unfolding side_fan

@@ -1,16 +1,16 @@
 -- The counts of a scan stay small: what is added to them is bounded by the polygons' points. And the room stays long enough. Assumes nothing.
-use mathlib.Core.List.{List, []}
+use mathlib.Core.List.{List}
+use Rattle.std.specs.Prelude.{Option, Some, None}
 use Prim.Native.Nat.{ℕ, ◌+◌, ◌*◌, ◌^◌, ◌≤◌, ◌<◌}
 use native.Mathlib.Omega.{arith}
 use lib.ListN.{length}
 use lib.Ieee.{Float}
-use Rattle.lists.proofs.Counting.{length_cons_if, bit_le}
 use Rattle.room.specs.declared.Rooms.{Rooms}
 use Rattle.room.specs.declared.LocalEdge.{LocalEdge}
+use Rattle.room.specs.declared.Event.{Event}
 use Rattle.room.specs.Layout.{Fit}
 use Rattle.cone.specs.declared.View.{View}
 use Rattle.site.specs.Tables.{first_of, len_of}
-use Rattle.fan.specs.declared.End.{End}
 use Rattle.fan.specs.declared.Tally.{Tally}
 use Rattle.fan.specs.Fan.{Fanned, edge_fan, end_fan, sides_fan, polygon_fan, zero_tally, Added, Below, Inside}
 use Rattle.fan.proofs.Bounds.{most_sides, most_polygon}
@@ -24,8 +24,9 @@ pub record Grows (d : ℕ) (g : Fanned) : Type 0 where
 pub grows_edge : (e : LocalEdge) → Grows 1 (edge_fan e)
 grows_edge e = record { candidates = omega arith; edges = omega arith; events = omega arith }
 
-pub grows_end : (e : End) → Grows 1 (end_fan e)
-grows_end e = record { candidates = omega arith; edges = omega arith; events = omega (arith, length_cons_if e.held e.event [], bit_le e.held) }
+pub grows_end : (e : Option Event) → Grows 1 (end_fan e)
+grows_end (Some e) = record { candidates = omega arith; edges = omega arith; events = omega arith }
+grows_end None = record { candidates = omega arith; edges = omega arith; events = omega arith }
 
 pub grows_sides : (v : View) (points : List Float) (first n m : ℕ) → m ≤ 65536 → Grows 131072 (sides_fan v points first n m)
 grows_sides v points first n m h =

@@ -1,27 +1,25 @@
 -- Every front edge of a scan is an edge of a listed polygon, by its number, and faces the post; and no event of it is a side. Assumes nothing.
+use Rattle.std.proofs.Common.{None, Option, Some}
 use mathlib.Core.Path.{◌≡◌, refl}
 use mathlib.Core.Logic.{◌⊎◌, inl, inr, ⊎_elim}
-use mathlib.Core.Bool.{Bool, true, false, cond}
+use mathlib.Core.Bool.{Bool, true, false, cond, ◌||◌}
 use mathlib.Core.List.{List, [], ◌∷◌, ◌++◌}
+use Rattle.std.specs.Prelude.{Some, None}
 use Prim.Native.Nat.{ℕ, zero, suc, ◌+◌, ◌%◌, ◌≤◌, ◌<◌}
 use native.Mathlib.Nat.{mod-lt}
 use native.Mathlib.Omega.{arith}
 use lib.Ieee.{Float, le}
 use Rattle.num.specs.Ops.{zero_f}
-use Rattle.lists.specs.Lists.{cons_if}
 use Rattle.lists.specs.Members.{In, All}
 use Rattle.lists.proofs.Members.{all_append}
 use Rattle.geom.specs.declared.Vec2.{Vec2}
-use Rattle.geom.specs.declared.Clip.{Clip}
-use Rattle.geom.specs.declared.Clip.TheVariants.{Part, Outside}
 use Rattle.geom.specs.Segment.{clip_segment_to_disk_of}
 use Rattle.site.specs.Tables.{first_of, len_of}
 use Rattle.cone.specs.declared.View.{View}
 use Rattle.room.specs.declared.LocalEdge.{LocalEdge}
 use Rattle.room.specs.declared.Event.{Event}
-use Rattle.fan.specs.declared.Seen.TheVariants.{Back}
 use Rattle.room.specs.Constants.{no_vertex}
-use Rattle.fan.specs.Sides.{facing, start_of, stop_of, rel_of, end_of, part_of, clipped_of, in_range, front_of, found_of}
+use Rattle.fan.specs.Sides.{facing, start_of, stop_of, rel_of, end_at, end_of, part_of, clipped_of, in_range, front_of, found_of}
 use Rattle.fan.specs.Fan.{Fanned, fanned, nothing, both, end_fan, seen_fan, side_fan, side_at, sides_fan, is_far, polygon_fan, fan_of}
 use Rattle.fan.specs.Fronts.{IsFront, IsEnd}
 
@@ -29,16 +27,16 @@ use Rattle.fan.specs.Fronts.{IsFront, IsEnd}
 
 -- what holds of every record that bears the edge's number, where the edge faces the post
 module _ (P : LocalEdge → Type 0) (v : View) (a b : Vec2) (i j : ℕ) where
-  clip_edges : (s : Clip) → ((e : LocalEdge) → e.edge ≡ i → P e) → All P (seen_fan (in_range v a b i j s)).edges
+  clip_edges : (s : (Option (Float × Float))) → ((e : LocalEdge) → e.edge ≡ i → P e) → All P (seen_fan (in_range v a b i j s)).edges
   unfolding both clipped_of part_of
-  clip_edges (Part t0 t1) h = (h _ refl, tt)
-  clip_edges Outside h = tt
+  clip_edges (Some (t0, t1)) h = (h _ refl, tt)
+  clip_edges None h = tt
 
   side_edges : (le zero_f (facing v.o a b) ≡ false → (e : LocalEdge) → e.edge ≡ i → P e) → All P (side_fan (found_of v a b i j)).edges
   unfolding both side_fan found_of front_of
   side_edges h = by (le zero_f (facing v.o a b)) refl
     where
-      by : (t : Bool) → le zero_f (facing v.o a b) ≡ t → All P (seen_fan (cond t Back (in_range v a b i j (clip_segment_to_disk_of a b v.o v.r)))).edges
+      by : (t : Bool) → le zero_f (facing v.o a b) ≡ t → All P (seen_fan (cond t None (in_range v a b i j (clip_segment_to_disk_of a b v.o v.r)))).edges
       by true e = tt
       by false e = clip_edges (clip_segment_to_disk_of a b v.o v.r) (h e)
 
@@ -46,28 +44,28 @@ module _ (P : LocalEdge → Type 0) (v : View) (a b : Vec2) (i j : ℕ) where
 module _ (P : Event → Type 0) (v : View) (a b : Vec2) (i j : ℕ) (h : (e : Event) → e.side ≡ false → (e.vertex ≡ no_vertex) ⊎ (e.vertex ≡ i) ⊎ (e.vertex ≡ j) → P e) where
   end_events : (angle : Float) (corner : Bool) (x : ℕ) → (x ≡ i) ⊎ (x ≡ j) → All P (end_fan (end_of v angle corner x)).events
   unfolding end_of
-  end_events angle corner x w = held (end_of v angle corner x).held (by corner)
+  end_events angle corner x w = held (v.full || le angle v.fov) (by corner)
     where
-      by : (t : Bool) → P (end_of v angle t x).event
+      by : (t : Bool) → P (end_at angle t x)
       by true = h _ refl (inr w)
       by false = h _ refl (inl refl)
 
-      held : {e : Event} (t : Bool) → P e → All P (cons_if t e [])
+      held : {e : Event} (t : Bool) → P e → All P (end_fan (cond t (Some e) None)).events
       held true p = (p, tt)
       held false p = tt
 
-  clip_events : (s : Clip) → All P (seen_fan (in_range v a b i j s)).events
+  clip_events : (s : (Option (Float × Float))) → All P (seen_fan (in_range v a b i j s)).events
   unfolding both clipped_of
-  clip_events (Part t0 t1) =
+  clip_events (Some (t0, t1)) =
       all_append P (end_fan (end_of v (rel_of v (start_of a b t0)) (le t0 zero_f) i)).events _
       (end_events (rel_of v (start_of a b t0)) (le t0 zero_f) i (inl refl)) (end_events (rel_of v (stop_of a b t1)) _ j (inr refl))
-  clip_events Outside = tt
+  clip_events None = tt
 
   side_events : All P (side_fan (found_of v a b i j)).events
   unfolding both side_fan found_of front_of
   side_events = by (le zero_f (facing v.o a b))
     where
-      by : (t : Bool) → All P (seen_fan (cond t Back (in_range v a b i j (clip_segment_to_disk_of a b v.o v.r)))).events
+      by : (t : Bool) → All P (seen_fan (cond t None (in_range v a b i j (clip_segment_to_disk_of a b v.o v.r)))).events
       by true = tt
       by false = clip_events (clip_segment_to_disk_of a b v.o v.r)
 

@@ -60,17 +60,16 @@ ready s t q k n f w fit few below = record {
 
 -- ---- the loop: after m ids
 
-pub record Run (k : Rooms) (v : View) (points boxes : List Float) (polygons : List ℕ) (n : ℕ) (f₀ : List Float) (w₀ : List ℕ) (m : ℕ) (t : Tally) (f : List Float) (w : List ℕ) : Type 0 where
-  pub up_to : m ≤ n
+pub record Run (k : Rooms) (v : View) (points boxes : List Float) (polygons : List ℕ) (f₀ : List Float) (w₀ : List ℕ) (m : ℕ) (t : Tally) (f : List Float) (w : List ℕ) : Type 0 where
   pub met : Met m t
   pub added : Added k (fan_of v points boxes polygons (take m w₀)) zero_tally f₀ w₀ t f w
 
-pub run_none : (k : Rooms) (v : View) (points boxes : List Float) (polygons : List ℕ) (n : ℕ) (f : List Float) (w : List ℕ) → Run k v points boxes polygons n f w 0 zero_tally f w
+pub run_none : (k : Rooms) (v : View) (points boxes : List Float) (polygons : List ℕ) (f : List Float) (w : List ℕ) → Run k v points boxes polygons f w 0 zero_tally f w
 unfolding fan_of
-run_none k v points boxes polygons n f w = record { up_to = omega arith; met = met_none; added = added_none zero_tally f w }
+run_none k v points boxes polygons f w = record { met = met_none; added = added_none zero_tally f w }
 
 module _ {k : Rooms} {v : View} {points boxes : List Float} {polygons : List ℕ} {n : ℕ} {f₀ : List Float} {w₀ : List ℕ} {m : ℕ} {t : Tally} {f : List Float} {w : List ℕ}
-    (r : Ready k polygons n f₀ w₀) (a : Run k v points boxes polygons n f₀ w₀ m t f w) (h : m < n) where
+    (r : Ready k polygons n f₀ w₀) (a : Run k v points boxes polygons f₀ w₀ m t f w) (h : m < n) where
   -- the ids still stand in front of the words
   id_kept : get_or w m 0 ≡ get_or w₀ m 0
   id_kept = only_get_d m 0 a.added.words_only (inl (omega (arith, r.few)))
@@ -81,11 +80,10 @@ module _ {k : Rooms} {v : View} {points boxes : List Float} {polygons : List ℕ
   pub id_inside : Inside (first_of polygons (get_or w m 0)) (len_of polygons (get_or w m 0))
   id_inside = rw id_kept (r.inside m h)
 
-  pub run_more : {t' : Tally} {f' : List Float} {w' : List ℕ} → Added k (polygon_fan v points boxes polygons (get_or w m 0)) t f w t' f' w' → Run k v points boxes polygons n f₀ w₀ (m + 1) t' f' w'
+  pub run_more : {t' : Tally} {f' : List Float} {w' : List ℕ} → Added k (polygon_fan v points boxes polygons (get_or w m 0)) t f w t' f' w' → Run k v points boxes polygons f₀ w₀ (m + 1) t' f' w'
   run_more b =
       let l : m < length w₀ = omega (arith, h, r.few, r.fit.words_fit) in
       record {
-        up_to = omega arith;
         met = met_more v points boxes polygons (get_or w m 0) id_inside b a.met;
         added = rw (fan_more v points boxes polygons w₀ m l) (added_both a.added (rw id_kept at b));
       }

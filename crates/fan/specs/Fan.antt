@@ -1,10 +1,9 @@
 -- What the scan of the candidates finds: how many there are, the front edges and the events in the order in which the Rust pushes them, and
 -- whether the post stands on an edge. `visibility.rs`, lines 269 to 327. Below it what the room holds of that.
 -- Document 01, "Outlines from a post" and "Refusal numbers": a list that is full is counted on without writing. Definitions only.
-use Rattle.std.specs.Prelude.{ℕ, zero, suc, ◌+◌, ◌%◌, ◌≤◌, ◌<◌, ◌≡◌, Bool, false, ◌||◌, cond, List, [], ◌∷◌, ◌++◌, length, get_or, ltb, Float}
+use Rattle.std.specs.Prelude.{ℕ, zero, suc, ◌+◌, ◌%◌, ◌≤◌, ◌<◌, ◌≡◌, Bool, false, ◌||◌, cond, Option, Some, None, option_to_list, List, [], ◌∷◌, ◌++◌, length, get_or, ltb, Float}
 use Rattle.std.specs.Float.Ieee.{lt}
 use Rattle.num.specs.Ops.{◌⊗◌}
-use Rattle.lists.specs.Lists.{cons_if}
 use Rattle.lists.specs.Parts.{Only}
 use Rattle.geom.specs.Box.{distance_sq_to_of}
 use Rattle.grid.specs.Boxes.{box_at}
@@ -15,9 +14,7 @@ use Rattle.room.specs.declared.LocalEdge.{LocalEdge}
 use Rattle.room.specs.declared.Event.{Event}
 use Rattle.room.specs.Layout.{merged_f, edges_w, turns_w, Fit}
 use Rattle.room.specs.Records.{edges_in, events_in}
-use Rattle.fan.specs.declared.End.{End}
-use Rattle.fan.specs.declared.Seen.{Seen}
-use Rattle.fan.specs.declared.Seen.TheVariants.{Front, Back}
+use Rattle.fan.specs.declared.FrontEdge.{FrontEdge}
 use Rattle.fan.specs.declared.Found.{Found}
 use Rattle.fan.specs.declared.Tally.{Tally}
 use Rattle.fan.specs.declared.Fan.{Fan}
@@ -47,16 +44,16 @@ abbrev pub event_fan : Event → Fanned
 event_fan e = fanned 0 [] (e ∷ []) false
 
 -- an end is an event where the view holds it
-abbrev pub end_fan : End → Fanned
-end_fan e = fanned 0 [] (cons_if e.held e.event []) false
+abbrev pub end_fan : Option Event → Fanned
+end_fan e = fanned 0 [] (option_to_list e) false
 
 abbrev pub touch_fan : Bool → Fanned
 touch_fan touch = fanned 0 [] [] touch
 
 -- of one polygon edge: the event of its start comes before that of its end
-abbrev pub seen_fan : Seen → Fanned
-seen_fan (Front e start stop) = both (edge_fan e) (both (end_fan start) (end_fan stop))
-seen_fan Back = nothing
+abbrev pub seen_fan : Option FrontEdge → Fanned
+seen_fan (Some f) = both (edge_fan f.edge) (both (end_fan f.start) (end_fan f.stop))
+seen_fan None = nothing
 
 unfoldable pub side_fan : Found → Fanned
 side_fan f = both (touch_fan f.touch) (seen_fan f.seen)

@@ -11,31 +11,26 @@ ghost use Rattle.fan.specs.Sides.{facing, touches_of, rel_of, start_of, stop_of,
 ghost use Rattle.fan.specs.Fan.{edge_fan, event_fan, end_fan, both, side_fan, side_at, sides_fan, is_far, polygon_fan, fan_of, Added, Below, Inside, Ready, Scanned, zero_tally};
 
 use cone::View;
-use geom::{Clip, Vec2};
+use geom::Vec2;
 use room::{Event, LocalEdge, NO_VERTEX, Rooms};
+use site::SiteTables;
 
 // A post this close to an edge stands on it.
 const BOUNDARY_EPS: f64 = 1e-9;
 
-// An end of a front edge, and whether the view holds its angle: only then is it an event.
+// A front edge, and the events of its two ends: an end is an event where the view holds its angle.
 #[derive(Clone, Copy)]
-struct End {
-    event: Event,
-    held: bool,
+struct FrontEdge {
+    edge: LocalEdge,
+    start: Option<Event>,
+    stop: Option<Event>,
 }
 
-// What the view has of a polygon's edge: a front edge with its two ends, or nothing.
-#[derive(Clone, Copy)]
-enum Seen {
-    Front(LocalEdge, End, End),
-    Back,
-}
-
-// What one polygon edge gives: whether the post stands on it, and the front edge.
+// What one polygon edge gives: whether the post stands on it, and the front edge, where the view has one of it.
 #[derive(Clone, Copy)]
 struct Found {
     touch: bool,
-    seen: Seen,
+    seen: Option<FrontEdge>,
 }
 
 // The cross product that is negative where the edge a..b faces o.
@@ -51,10 +46,8 @@ fn touches(o: Vec2, a: Vec2, b: Vec2) -> bool
     ensures { result ≡ touches_of o a b }
 {
     let cross = facing(o, a, b);
-    if cross * cross <= BOUNDARY_EPS * BOUNDARY_EPS * b.sub(a).length_sq() {
-        return geom::point_segment_distance(o, a, b) <= BOUNDARY_EPS;
-    }
-    false
+    cross * cross <= BOUNDARY_EPS * BOUNDARY_EPS * b.sub(a).length_sq()
+        && geom::point_segment_distance(o, a, b) <= BOUNDARY_EPS
 }
 
 // The Rust's closure `rel`: the angle of p seen from the post, relative to the view's start.
@@ -84,29 +77,19 @@ fn stop_of(a: Vec2, b: Vec2, t1: f64) -> Vec2
     a.lerp(b, t1)
 }
 
-// The end at an angle. Where it is a corner its place is the point of the number i, so the event keeps the number alone.
-fn end_of(view: View, angle: f64, corner: bool, i: u32) -> End
+// The event of the end at an angle. Where it is a corner its place is the point of the number i, so the event keeps the number alone.
+fn end_of(view: View, angle: f64, corner: bool, i: u32) -> Option<Event>
     ensures { result ≡ end_of view angle corner i }
 {
     let held = view.full | (angle <= view.fov);
-    if corner {
-        return End {
-            event: Event {
-                angle,
-                vertex: i,
-                side: false,
-            },
-            held,
-        };
+    if !held {
+        return None;
     }
-    End {
-        event: Event {
-            angle,
-            vertex: NO_VERTEX,
-            side: false,
-        },
-        held,
-    }
+    Some(Event {
+        angle,
+        vertex: if corner { i } else { NO_VERTEX },
+        side: false,
+    })
 }
 
 // The part of an edge from p to q, seen at the angles rp and rq. q is clockwise of p, so it covers rq to rp.
@@ -124,31 +107,30 @@ fn part_of(o: Vec2, p: Vec2, q: Vec2, rp: f64, rq: f64, i: u32) -> LocalEdge
 }
 
 // A front edge of which the range holds the share from t0 to t1.
-fn clipped(view: View, a: Vec2, b: Vec2, i: u32, j: u32, t0: f64, t1: f64) -> Seen
+fn clipped(view: View, a: Vec2, b: Vec2, i: u32, j: u32, t0: f64, t1: f64) -> FrontEdge
     ensures { result ≡ clipped_of view a b i j t0 t1 }
 {
     let p = start_of(a, b, t0);
     let q = stop_of(a, b, t1);
     let rp = rel(view, p);
     let rq = rel(view, q);
-    Seen::Front(
-        part_of(view.o, p, q, rp, rq, i),
-        end_of(view, rp, t0 <= 0.0, i),
-        end_of(view, rq, t1 >= 1.0, j),
-    )
+    FrontEdge {
+        edge: part_of(view.o, p, q, rp, rq, i),
+        start: end_of(view, rp, t0 <= 0.0, i),
+        stop: end_of(view, rq, t1 >= 1.0, j),
+    }
 }
 
 // An edge that faces away, or lies edge-on, is never hit first; one out of range is not hit at all.
-fn front(view: View, a: Vec2, b: Vec2, i: u32, j: u32) -> Seen
+fn front(view: View, a: Vec2, b: Vec2, i: u32, j: u32) -> Option<FrontEdge>
     ensures { result ≡ front_of view a b i j }
 {
     if facing(view.o, a, b) >= 0.0 {
-        return Seen::Back;
+        return None;
     }
-    let clip = geom::clip_segment_to_disk(a, b, view.o, view.r);
-    match clip {
-        Clip::Part(t0, t1) => clipped(view, a, b, i, j, t0, t1),
-        Clip::Outside => Seen::Back,
+    match geom::clip_segment_to_disk(a, b, view.o, view.r) {
+        Some((t0, t1)) => Some(clipped(view, a, b, i, j, t0, t1)),
+        None => None,
     }
 }
 
@@ -173,7 +155,7 @@ struct Tally {
 }
 
 // What the scan answers: how many candidates, front edges and events there are, whether the post stands on an edge, and whether a list
-// passes its stated entries.
+// passes its stated entries. A flag beside them and no `Option` around them: the numbers are promised where a list is over too (`Scanned`).
 #[derive(Clone, Copy)]
 pub struct Fan {
     pub candidates: usize,
@@ -190,17 +172,10 @@ fn add_edge(k: Rooms, e: LocalEdge, t: Tally, floats: &mut [f64], words: &mut [u
     ensures { Added k (edge_fan e) t floats.old words.old result floats.new words.new }
 {
     let n = t.edges;
-    let more = Tally {
-        candidates: t.candidates,
-        edges: n + 1,
-        events: t.events,
-        touch: t.touch,
-    };
     if n < k.edges as usize {
         room::put_edge(k, floats, words, n as u32, e);
-        return more;
     }
-    more
+    Tally { edges: n + 1, ..t }
 }
 
 // Counts an event, and writes it where there is room.
@@ -210,36 +185,29 @@ fn add_event(k: Rooms, e: Event, t: Tally, floats: &mut [f64], words: &mut [u32]
     ensures { Added k (event_fan e) t floats.old words.old result floats.new words.new }
 {
     let n = t.events;
-    let more = Tally {
-        candidates: t.candidates,
-        edges: t.edges,
-        events: n + 1,
-        touch: t.touch,
-    };
     if n < k.events as usize {
         room::put_event(k, floats, words, n as u32, e);
-        return more;
     }
-    more
+    Tally { events: n + 1, ..t }
 }
 
-// An end is an event where the view holds it.
-fn add_end(k: Rooms, e: End, t: Tally, floats: &mut [f64], words: &mut [u32]) -> Tally
+// Adds the event of an end, where it is one.
+fn add_end(k: Rooms, end: Option<Event>, t: Tally, floats: &mut [f64], words: &mut [u32]) -> Tally
     requires fit { Fit k (length floats.old) (length words.old) }
     requires below { Below (2 ^ 63) t }
-    ensures { Added k (end_fan e) t floats.old words.old result floats.new words.new }
+    ensures { Added k (end_fan end) t floats.old words.old result floats.new words.new }
 {
-    if e.held {
-        return add_event(k, e.event, t, floats, words);
+    match end {
+        Some(e) => add_event(k, e, t, floats, words),
+        None => t,
     }
-    t
 }
 
 // Both ends, the start first.
 fn add_ends(
     k: Rooms,
-    start: End,
-    stop: End,
+    start: Option<Event>,
+    stop: Option<Event>,
     t: Tally,
     floats: &mut [f64],
     words: &mut [u32],
@@ -259,19 +227,14 @@ fn add_side(k: Rooms, found: Found, t: Tally, floats: &mut [f64], words: &mut [u
     ensures { Added k (side_fan found) t floats.old words.old result floats.new words.new }
 {
     let touched = Tally {
-        candidates: t.candidates,
-        edges: t.edges,
-        events: t.events,
         touch: t.touch | found.touch,
+        ..t
     };
-    let seen = found.seen;
-    match seen {
-        Seen::Back => touched,
-        Seen::Front(e, start, stop) => {
-            let s = add_edge(k, e, touched, &mut *floats, &mut *words);
-            add_ends(k, start, stop, s, floats, words)
-        }
-    }
+    let Some(f) = found.seen else {
+        return touched;
+    };
+    let s = add_edge(k, f.edge, touched, &mut *floats, &mut *words);
+    add_ends(k, f.start, f.stop, s, floats, words)
 }
 
 // The edge i of the polygon whose points are the n from `first` on.
@@ -308,11 +271,9 @@ fn polygon_sides(
     ensures { Added k (sides_fan view points.now first n n) t floats.old words.old result floats.new words.new }
 {
     let mut s = t;
-    let mut i: u32 = 0;
-    while i < n {
+    for i in 0..n {
         let found = side_at(view, points, first, n, i);
         s = add_side(k, found, s, floats, words);
-        i += 1;
     }
     s
 }
@@ -321,53 +282,47 @@ fn polygon_sides(
 fn is_far(view: View, boxes: &[f64], id: u32) -> bool
     ensures { result ≡ is_far view boxes.now id }
 {
-    grid::box_at(boxes, lists::wide(id)).distance_sq_to(view.o) > view.r * view.r
+    grid::box_at(boxes, id as usize).distance_sq_to(view.o) > view.r * view.r
 }
 
 // Adds what one polygon of the box query gives.
 fn add_polygon(
     k: Rooms,
     view: View,
-    points: &[f64],
-    boxes: &[f64],
-    polygons: &[u32],
+    tables: &SiteTables,
     id: u32,
     t: Tally,
     floats: &mut [f64],
     words: &mut [u32],
 ) -> Tally
     requires fit { Fit k (length floats.old) (length words.old) }
-    requires inside { Inside (first_of polygons.now id) (len_of polygons.now id) }
+    requires inside { Inside (first_of tables.now.polygons.now id) (len_of tables.now.polygons.now id) }
     requires below { Below (2 ^ 59) t }
-    ensures { Added k (polygon_fan view points.now boxes.now polygons.now id) t floats.old words.old result floats.new words.new }
+    ensures { Added k (polygon_fan view tables.now.points.now tables.now.boxes.now tables.now.polygons.now id) t floats.old words.old result floats.new words.new }
 {
-    if is_far(view, boxes, id) {
+    if is_far(view, tables.boxes, id) {
         return t;
     }
     let s = Tally {
         candidates: t.candidates + 1,
-        edges: t.edges,
-        events: t.events,
-        touch: t.touch,
+        ..t
     };
-    let first = site::first_of(polygons, id);
-    let n = site::len_of(polygons, id);
-    polygon_sides(k, view, points, first, n, s, floats, words)
+    let first = site::first_of(tables.polygons, id);
+    let n = site::len_of(tables.polygons, id);
+    polygon_sides(k, view, tables.points, first, n, s, floats, words)
 }
 
 // Adds what the first n ids in front of the words give.
 fn scan(
     k: Rooms,
     view: View,
-    points: &[f64],
-    boxes: &[f64],
-    polygons: &[u32],
+    tables: &SiteTables,
     n: usize,
     floats: &mut [f64],
     words: &mut [u32],
 ) -> Tally
-    requires { Ready k polygons.now n floats.old words.old }
-    ensures { Added k (fan_of view points.now boxes.now polygons.now (take n words.old)) zero_tally floats.old words.old result floats.new words.new }
+    requires { Ready k tables.now.polygons.now n floats.old words.old }
+    ensures { Added k (fan_of view tables.now.points.now tables.now.boxes.now tables.now.polygons.now (take n words.old)) zero_tally floats.old words.old result floats.new words.new }
 {
     let mut t = Tally {
         candidates: 0,
@@ -375,11 +330,10 @@ fn scan(
         events: 0,
         touch: false,
     };
-    let mut m: usize = 0;
-    while m < n {
+    // By place: the words are written while their ids are read.
+    for m in 0..n {
         let id = words[m];
-        t = add_polygon(k, view, points, boxes, polygons, id, t, floats, words);
-        m += 1;
+        t = add_polygon(k, view, tables, id, t, floats, words);
     }
     t
 }
@@ -389,17 +343,15 @@ fn scan(
 pub fn front_edges(
     k: Rooms,
     view: View,
-    points: &[f64],
-    boxes: &[f64],
-    polygons: &[u32],
+    tables: &SiteTables,
     n: usize,
     floats: &mut [f64],
     words: &mut [u32],
 ) -> Fan
-    requires { Ready k polygons.now n floats.old words.old }
-    ensures { Scanned k (fan_of view points.now boxes.now polygons.now (take n words.old)) result floats.old words.old floats.new words.new }
+    requires { Ready k tables.now.polygons.now n floats.old words.old }
+    ensures { Scanned k (fan_of view tables.now.points.now tables.now.boxes.now tables.now.polygons.now (take n words.old)) result floats.old words.old floats.new words.new }
 {
-    let t = scan(k, view, points, boxes, polygons, n, floats, words);
+    let t = scan(k, view, tables, n, floats, words);
     Fan {
         candidates: t.candidates,
         edges: t.edges,

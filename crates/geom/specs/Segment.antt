@@ -1,18 +1,11 @@
 -- Angles, rays, segments and circles of `geom.rs`: the formulas and tests of the Rust, one rounding for each operation, in the Rust's order.
 -- A test that a NaN enters fails, as in the Rust. Definitions only.
-use Rattle.std.specs.Prelude.{Bool, true, false, cond, ◌&&◌, Float}
+use Rattle.std.specs.Prelude.{Bool, cond, ◌&&◌, Float, Option, Some, None, is_some, List, [], ◌∷◌}
 use Rattle.std.specs.Float.Ieee.{neg, lt, le}
 use Rattle.num.specs.Ops.{◌⊕◌, ◌⊖◌, ◌⊗◌, ◌⊘◌, zero_f, one_f}
 use Rattle.num.specs.Num.{abs_of, min_of, max_of, clamp_of, rem_euclid_of}
 use Rattle.num.specs.Root.{sqrt_of}
 use Rattle.geom.specs.declared.Vec2.{Vec2}
-use Rattle.geom.specs.declared.Reach.{Reach}
-use Rattle.geom.specs.declared.Reach.TheVariants.{Hit, Miss}
-use Rattle.geom.specs.declared.Meeting.{Meeting}
-use Rattle.geom.specs.declared.Meeting.TheVariants.{At, Nowhere}
-use Rattle.geom.specs.declared.Meetings.{Meetings}
-use Rattle.geom.specs.declared.Clip.{Clip}
-use Rattle.geom.specs.declared.Clip.TheVariants.{Part, Outside}
 use Rattle.geom.specs.Constants.{tau, two, four, nano, flat, speck}
 use Rattle.geom.specs.Vec.{dot_of, cross_of, length_sq_of, add_of, sub_of, mul_of, distance_of}
 
@@ -30,20 +23,20 @@ is_flat denom = lt (abs_of denom) flat
 
 -- How far along the ray from o in the direction d the segment from a to b is met, in units of d. `slack` is how far beyond the segment's ends,
 -- as a share of its length, a hit still counts: the Rust's `U_EPS`.
-unfoldable pub ray_segment_within : Float → Vec2 → Vec2 → Vec2 → Vec2 → Reach
+unfoldable pub ray_segment_within : Float → Vec2 → Vec2 → Vec2 → Vec2 → Option Float
 ray_segment_within slack o d a b =
     let e = sub_of b a in
     let denom = cross_of d e in
     let ao = sub_of a o in
     let t = cross_of ao e ⊘ denom in
     let u = cross_of ao d ⊘ denom in
-    cond (is_flat denom) Miss (cond (lt nano t && within (neg slack) (one_f ⊕ slack) u) (Hit t) Miss)
+    cond (is_flat denom) None (cond (lt nano t && within (neg slack) (one_f ⊕ slack) u) (Some t) None)
 
-unfoldable pub ray_segment_of : Vec2 → Vec2 → Vec2 → Vec2 → Reach
+unfoldable pub ray_segment_of : Vec2 → Vec2 → Vec2 → Vec2 → Option Float
 ray_segment_of o d a b = ray_segment_within nano o d a b
 
 -- where the closed segments p1..p2 and p3..p4 meet; parallel ones nowhere
-unfoldable pub segment_intersection_of : Vec2 → Vec2 → Vec2 → Vec2 → Meeting
+unfoldable pub segment_intersection_of : Vec2 → Vec2 → Vec2 → Vec2 → Option Vec2
 segment_intersection_of p1 p2 p3 p4 =
     let r = sub_of p2 p1 in
     let s = sub_of p4 p3 in
@@ -51,11 +44,7 @@ segment_intersection_of p1 p2 p3 p4 =
     let qp = sub_of p3 p1 in
     let t = cross_of qp s ⊘ denom in
     let u = cross_of qp r ⊘ denom in
-    cond (is_flat denom) Nowhere (cond (within zero_f one_f t && within zero_f one_f u) (At (add_of p1 (mul_of r t))) Nowhere)
-
-abbrev pub is_some : Meeting → Bool
-is_some (At p) = true
-is_some Nowhere = false
+    cond (is_flat denom) None (cond (within zero_f one_f t && within zero_f one_f u) (Some (add_of p1 (mul_of r t))) None)
 
 unfoldable pub segments_intersect_of : Vec2 → Vec2 → Vec2 → Vec2 → Bool
 segments_intersect_of p1 p2 p3 p4 = is_some (segment_intersection_of p1 p2 p3 p4)
@@ -78,7 +67,7 @@ higher qa qb sq = (neg qb ⊕ sq) ⊘ (two ⊗ qa)
 
 -- the share of a..b that lies in the disk, from one parameter to another. Of -0 and +0 Rust's pages let `max` give either; the Rust's own code gives the
 -- constant there, so the constant stands first.
-unfoldable pub clip_segment_to_disk_of : Vec2 → Vec2 → Vec2 → Float → Clip
+unfoldable pub clip_segment_to_disk_of : Vec2 → Vec2 → Vec2 → Float → Option (Float × Float)
 clip_segment_to_disk_of a b c radius =
     let d = sub_of b a in
     let f = sub_of a c in
@@ -87,26 +76,26 @@ clip_segment_to_disk_of a b c radius =
     let disc = discriminant qa qb (constant f radius) in
     let t0 = max_of zero_f (lower qa qb (sqrt_of disc)) in
     let t1 = min_of (higher qa qb (sqrt_of disc)) one_f in
-    cond (lt qa speck) (cond (le (length_sq_of f) (radius ⊗ radius)) (Part zero_f one_f) Outside)
-    (cond (lt disc zero_f) Outside (cond (le t0 t1) (Part t0 t1) Outside))
+    cond (lt qa speck) (cond (le (length_sq_of f) (radius ⊗ radius)) (Some (zero_f, one_f)) None)
+    (cond (lt disc zero_f) None (cond (le t0 t1) (Some (t0, t1)) None))
 
 -- the point of the line at t, where t lies on the segment
-unfoldable pub pick_of : Vec2 → Vec2 → Float → Meeting
-pick_of a d t = cond (within zero_f one_f t) (At (add_of a (mul_of d t))) Nowhere
+unfoldable pub pick_of : Vec2 → Vec2 → Float → Option Vec2
+pick_of a d t = cond (within zero_f one_f t) (Some (add_of a (mul_of d t))) None
 
-abbrev pub both : Meeting → Meeting → Meetings
-both m n = record { first = m; second = n }
+abbrev pub both : Option Vec2 → Option Vec2 → List (Option Vec2)
+both m n = m ∷ n ∷ []
 
 -- where a..b crosses the circle
-unfoldable pub segment_circle_points_of : Vec2 → Vec2 → Vec2 → Float → Meetings
+unfoldable pub segment_circle_points_of : Vec2 → Vec2 → Vec2 → Float → List (Option Vec2)
 segment_circle_points_of a b c radius =
     let d = sub_of b a in
     let f = sub_of a c in
     let qa = length_sq_of d in
     let qb = linear f d in
     let disc = discriminant qa qb (constant f radius) in
-    cond (lt qa speck) (both Nowhere Nowhere)
-    (cond (lt disc zero_f) (both Nowhere Nowhere)
+    cond (lt qa speck) (both None None)
+    (cond (lt disc zero_f) (both None None)
     (both (pick_of a d (lower qa qb (sqrt_of disc))) (pick_of a d (higher qa qb (sqrt_of disc)))))
 
 -- the parameter of the point of a..a + d that is nearest to a + w

@@ -175,10 +175,8 @@ impl Aabb {
     {
         let n = points.len() / 2;
         let mut b = Aabb::empty();
-        let mut i = 0;
-        while i < n {
+        for i in 0..n {
             b = b.include(corner(points, i));
-            i += 1;
         }
         b
     }
@@ -289,13 +287,6 @@ pub fn normalize_angle(a: f64) -> f64
     r
 }
 
-// How far a ray goes until it meets a segment.
-#[derive(Clone, Copy)]
-pub enum Reach {
-    Hit(f64),
-    Miss,
-}
-
 // How far beyond an edge's ends, as a share of its length, a hit counts, so that a ray through a shared corner hits both edges.
 const U_EPS: f64 = 1e-9;
 
@@ -309,72 +300,54 @@ fn is_flat(denom: f64) -> bool
 }
 
 // `ray_segment` with its slack as a parameter.
-pub fn ray_segment_within(slack: f64, origin: Vec2, dir: Vec2, a: Vec2, b: Vec2) -> Reach
+pub fn ray_segment_within(slack: f64, origin: Vec2, dir: Vec2, a: Vec2, b: Vec2) -> Option<f64>
     ensures { result ≡ ray_segment_within slack origin dir a b }
 {
     let e = b.sub(a);
     let denom = dir.cross(e);
     if is_flat(denom) {
-        return Reach::Miss;
+        return None;
     }
     let ao = a.sub(origin);
     let t = ao.cross(e) / denom;
     let u = ao.cross(dir) / denom;
     if (t > 1e-9) & ((-slack <= u) & (u <= 1.0 + slack)) {
-        return Reach::Hit(t);
+        return Some(t);
     }
-    Reach::Miss
+    None
 }
 
 // The distance along the ray `origin + t * dir` to the segment a..b, where they meet with t above 0. It is in units of `dir`.
-pub fn ray_segment(origin: Vec2, dir: Vec2, a: Vec2, b: Vec2) -> Reach
+pub fn ray_segment(origin: Vec2, dir: Vec2, a: Vec2, b: Vec2) -> Option<f64>
     ensures { result ≡ ray_segment_of origin dir a b }
 {
     ray_segment_within(U_EPS, origin, dir, a, b)
 }
 
-// Where two segments meet.
-#[derive(Clone, Copy)]
-pub enum Meeting {
-    At(Vec2),
-    Nowhere,
-}
-
 // Where the closed segments p1..p2 and p3..p4 meet; parallel ones nowhere.
-pub fn segment_intersection(p1: Vec2, p2: Vec2, p3: Vec2, p4: Vec2) -> Meeting
+pub fn segment_intersection(p1: Vec2, p2: Vec2, p3: Vec2, p4: Vec2) -> Option<Vec2>
     ensures { result ≡ segment_intersection_of p1 p2 p3 p4 }
 {
     let r = p2.sub(p1);
     let s = p4.sub(p3);
     let denom = r.cross(s);
     if is_flat(denom) {
-        return Meeting::Nowhere;
+        return None;
     }
     let qp = p3.sub(p1);
     let t = qp.cross(s) / denom;
     let u = qp.cross(r) / denom;
     if ((0.0 <= t) & (t <= 1.0)) & ((0.0 <= u) & (u <= 1.0)) {
-        return Meeting::At(p1.add(r.mul(t)));
+        return Some(p1.add(r.mul(t)));
     }
-    Meeting::Nowhere
+    None
 }
 
 // Do they meet? Parallel segments do not.
 pub fn segments_intersect(p1: Vec2, p2: Vec2, p3: Vec2, p4: Vec2) -> bool
     ensures { result ≡ segments_intersect_of p1 p2 p3 p4 }
 {
-    let m = segment_intersection(p1, p2, p3, p4);
-    match m {
-        Meeting::At(_) => true,
-        Meeting::Nowhere => false,
-    }
-}
-
-// The part of a segment that lies in a disk, from one parameter to another, both from 0 to 1.
-#[derive(Clone, Copy)]
-pub enum Clip {
-    Part(f64, f64),
-    Outside,
+    segment_intersection(p1, p2, p3, p4).is_some()
 }
 
 // By how much `spans` takes a number larger than it needs, so that rounding does not bring it back under.
@@ -391,7 +364,7 @@ fn spans(qa: f64, qb: f64, disc: f64) -> bool
     ((0.0 < w) & (0.0 < disc)) & ((nb <= 0.0) | (nb * nb < disc)) & ((u * u < disc) & (w <= nb + u))
 }
 
-pub fn clip_segment_to_disk(a: Vec2, b: Vec2, center: Vec2, radius: f64) -> Clip
+pub fn clip_segment_to_disk(a: Vec2, b: Vec2, center: Vec2, radius: f64) -> Option<(f64, f64)>
     ensures { result ≡ clip_segment_to_disk_of a b center radius }
 {
     let d = b.sub(a);
@@ -399,75 +372,59 @@ pub fn clip_segment_to_disk(a: Vec2, b: Vec2, center: Vec2, radius: f64) -> Clip
     let qa = d.length_sq();
     if qa < 1e-24 {
         if f.length_sq() <= radius * radius {
-            return Clip::Part(0.0, 1.0);
+            return Some((0.0, 1.0));
         }
-        return Clip::Outside;
+        return None;
     }
     let qb = 2.0 * f.dot(d);
     let qc = f.length_sq() - radius * radius;
     let disc = qb * qb - 4.0 * qa * qc;
     if disc < 0.0 {
-        return Clip::Outside;
+        return None;
     }
     if spans(qa, qb, disc) {
-        return Clip::Part(0.0, 1.0);
+        return Some((0.0, 1.0));
     }
     let sq = num::sqrt(disc);
     // Of the two zeros Rust's pages let `max` give either, and the Rust's own code gives the constant: it stands first.
     let t0 = num::max(0.0, (-qb - sq) / (2.0 * qa));
     let t1 = num::min((-qb + sq) / (2.0 * qa), 1.0);
     if t0 <= t1 {
-        return Clip::Part(t0, t1);
+        return Some((t0, t1));
     }
-    Clip::Outside
-}
-
-// Up to two points.
-#[derive(Clone, Copy)]
-pub struct Meetings {
-    pub first: Meeting,
-    pub second: Meeting,
+    None
 }
 
 // The Rust's closure `pick`: the point a + d * t, where t lies on the segment.
-fn pick(a: Vec2, d: Vec2, t: f64) -> Meeting
+fn pick(a: Vec2, d: Vec2, t: f64) -> Option<Vec2>
     ensures { result ≡ pick_of a d t }
 {
     if (0.0 <= t) & (t <= 1.0) {
-        return Meeting::At(a.add(d.mul(t)));
+        return Some(a.add(d.mul(t)));
     }
-    Meeting::Nowhere
+    None
 }
 
 // Where the segment a..b crosses the circle, not the inside of the disk.
-pub fn segment_circle_points(a: Vec2, b: Vec2, center: Vec2, radius: f64) -> Meetings
+pub fn segment_circle_points(a: Vec2, b: Vec2, center: Vec2, radius: f64) -> [Option<Vec2>; 2]
     ensures { result ≡ segment_circle_points_of a b center radius }
 {
     let d = b.sub(a);
     let f = a.sub(center);
     let qa = d.length_sq();
     if qa < 1e-24 {
-        return Meetings {
-            first: Meeting::Nowhere,
-            second: Meeting::Nowhere,
-        };
+        return [None, None];
     }
     let qb = 2.0 * f.dot(d);
     let qc = f.length_sq() - radius * radius;
     let disc = qb * qb - 4.0 * qa * qc;
     if disc < 0.0 {
-        return Meetings {
-            first: Meeting::Nowhere,
-            second: Meeting::Nowhere,
-        };
+        return [None, None];
     }
     let sq = num::sqrt(disc);
     let t0 = (-qb - sq) / (2.0 * qa);
     let t1 = (-qb + sq) / (2.0 * qa);
-    Meetings {
-        first: pick(a, d, t0),
-        second: pick(a, d, t1),
-    }
+    [pick(a, d, t0), pick(a, d, t1)]
 }
 
 // The parameter t of `point_segment_distance`: the point a + d * t is the segment's nearest to a + w.
@@ -510,12 +467,10 @@ pub fn point_in_polygon(p: Vec2, poly: &[f64]) -> bool
     }
     let mut inside = false;
     let mut b = corner(poly, n - 1);
-    let mut i = 0;
-    while i < n {
+    for i in 0..n {
         let a = corner(poly, i);
         inside = inside != crosses(p, a, b);
         b = a;
-        i += 1;
     }
     inside
 }
@@ -526,12 +481,10 @@ pub fn signed_area(poly: &[f64]) -> f64
 {
     let n = poly.len() / 2;
     let mut s = 0.0;
-    let mut i = 0;
-    while i < n {
+    for i in 0..n {
         let a = corner(poly, i);
         let b = corner(poly, (i + 1) % n);
         s = s + a.cross(b);
-        i += 1;
     }
     0.5 * s
 }

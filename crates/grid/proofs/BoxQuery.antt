@@ -1,5 +1,6 @@
 -- DEMAND 3 OF THE BOX QUERY, over sound tables and fresh stamps: no id is listed twice; an id is listed exactly where it is an entry of a cell of
 -- the box's range; the entries read are those that the range's cells hold. `tables` has it for the tables that building makes. Assumes nothing.
+use Rattle.std.proofs.Common.{None, Some, Err}
 use Prim.Native.Nat.{ℕ, suc, ◌+◌, ◌-◌, ◌*◌, ◌≤◌, ◌<◌}
 use mathlib.Core.Path.{◌≡◌, refl, sym, ◌∙◌}
 use mathlib.Core.Logic.{inl, inr, ⊎_elim}
@@ -24,14 +25,13 @@ use Rattle.geom.specs.declared.Aabb.{Aabb}
 use Rattle.grid.specs.Range.{range_of, InGrid}
 use Rattle.grid.specs.Stamps.{epoch_after, marks_begun, firsts, Fresh}
 use Rattle.grid.specs.Entries.{cell_of, cells_from, rows_from, entries_in, entry_count, Inside, EntryOf, SoundGrid, Named}
-use Rattle.grid.specs.Query.{Outcome, outcome_by, outcome}
+use Rattle.grid.specs.Query.{Outcome, outcome_by, outcome, counted}
 use Rattle.grid.specs.declared.CellRange.{CellRange}
 use Rattle.grid.specs.declared.Grid.{Grid}
-use Rattle.grid.specs.declared.Range.TheVariants.{Cells, Nothing}
-use Rattle.grid.specs.declared.Listing.TheVariants.{Listed, Refused}
 use Rattle.grid.proofs.Stamping.{seen_firsts, new_firsts, firsts_nil}
 use Rattle.grid.proofs.Rows.{row_in, start_last, row_of}
 use Rattle.grid.proofs.FreshStamps.{begun_bare, query_fresh}
+use Rattle.refusal.specs.declared.Refusal.TheVariants.{NoListRoom}
 
 -- ---- the first meetings among any entries
 
@@ -155,9 +155,9 @@ pub record Fair (g : Grid) (r : CellRange) (starts items : List ℕ) (k : ℕ) (
   pub only : (x : ℕ) → In x found → EntryOf g r starts items x
   pub every : (x : ℕ) → EntryOf g r starts items x → In x found
   -- they are listed, with as many entries read as the cells hold, and zeros after them
-  pub fits : length found ≤ k → (o.answer ≡ Listed (length found) (entry_count g r starts items)) × (o.ids ≡ padded 0 k found)
+  pub fits : length found ≤ k → (o.answer ≡ counted (length found) (entry_count g r starts items)) × (o.ids ≡ padded 0 k found)
   -- or refused, where there is no room for them
-  pub over : k < length found → (o.answer ≡ Refused 8) × (o.ids ≡ replicate k 0)
+  pub over : k < length found → (o.answer ≡ Err NoListRoom) × (o.ids ≡ replicate k 0)
   -- and the stamps serve the next query
   pub again : Fresh o.epoch o.marks
 
@@ -166,7 +166,7 @@ begun_length e m true t = rw t
 begun_length e m false t = rw t (length-replicate (length m) 0)
 
 -- THE BOX QUERY over sound tables and fresh stamps
-pub fair_query : (g : Grid) (b : Aabb) (r : CellRange) (starts items m : List ℕ) (e k : ℕ) → range_of g b ≡ Cells r → InGrid g r
+pub fair_query : (g : Grid) (b : Aabb) (r : CellRange) (starts items m : List ℕ) (e k : ℕ) → range_of g b ≡ Some r → InGrid g r
     → SoundGrid g.cols g.rows starts items → Named (g.cols * g.rows) starts items (length m) → Fresh e m
     → Fair g r starts items k (outcome g b starts items m e k)
 unfolding outcome outcome_by
@@ -184,7 +184,7 @@ fair_query g b r starts items m e k is o s ids f =
     }
 
 -- a box without a range lists nothing, reads nothing and changes no stamp
-pub no_range : (g : Grid) (b : Aabb) (starts items m : List ℕ) (e k : ℕ) → range_of g b ≡ Nothing
-    → outcome g b starts items m e k ≡ record { answer = Listed 0 0; marks = m; epoch = e; ids = replicate k 0 }
+pub no_range : (g : Grid) (b : Aabb) (starts items m : List ℕ) (e k : ℕ) → range_of g b ≡ None
+    → outcome g b starts items m e k ≡ record { answer = counted 0 0; marks = m; epoch = e; ids = replicate k 0 }
 unfolding outcome outcome_by
 no_range g b starts items m e k is = rw is

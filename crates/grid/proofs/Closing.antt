@@ -9,9 +9,10 @@ use lib.Seq.{sets, length-sets}
 use Rattle.lists.proofs.Parts.{laid}
 use Rattle.grid.specs.Stamps.{stamped, firsts, epoch_after, marks_begun}
 use Rattle.grid.specs.Entries.{tally_of}
-use Rattle.grid.specs.Query.{Is, meeting}
+use Rattle.grid.specs.Query.{Is, counted, meeting}
 use Rattle.grid.specs.declared.Tally.{Tally}
-use Rattle.grid.specs.declared.Listing.TheVariants.{Listed, Refused}
+use Rattle.refusal.specs.declared.Refusal.TheVariants.{NoListRoom}
+use Rattle.std.proofs.Common.{Err}
 
 module _ (xs m : List ℕ) (e : ℕ) (ids marks₁ marks₂ ids₁ : List ℕ) (epoch₁ : ℕ) (t : Tally)
     (p : epoch₁ ≡ epoch_after e) (q : marks₁ ≡ marks_begun e m) (u : t ≡ tally_of epoch₁ marks₁ xs)
@@ -31,13 +32,13 @@ module _ (xs m : List ℕ) (e : ℕ) (ids marks₁ marks₂ ids₁ : List ℕ) (
   same = ap length w ∙ length-sets ids 0 (firsts epoch₁ marks₁ xs)
 
   pub refused : (ids₂ : List ℕ) → length ids₁ < t.found → ids₂ ≡ replicate (length ids₁) 0
-      → Is (meeting xs m e (length ids)) (Refused 8) marks₂ epoch₁ ids₂
+      → Is (meeting xs m e (length ids)) (Err NoListRoom) marks₂ epoch₁ ids₂
   refused ids₂ h z =
       let k = lt-ltb (length ids) (length (firsts (epoch_after e) (marks_begun e m) xs)) (omega (arith, count, same)) in
       simp k (record { answer_is = refl; marks_are = rw (p, q) at v; epoch_is = p; ids_are = rw same at z })
 
   pub listed : (ids₂ : List ℕ) → t.found ≤ length ids₁ → ids₂ ≡ take t.found ids₁ ++ replicate (length ids₁ - t.found) 0
-      → Is (meeting xs m e (length ids)) (Listed t.found t.read) marks₂ epoch₁ ids₂
+      → Is (meeting xs m e (length ids)) (counted t.found t.read) marks₂ epoch₁ ids₂
   listed ids₂ h z =
       let k = le-ltb (length ids) (length (firsts (epoch_after e) (marks_begun e m) xs)) (omega (arith, count, same)) in
       let o = laid ids 0 (firsts (epoch_after e) (marks_begun e m) xs) (omega (arith, count, same)) in

@@ -1,5 +1,6 @@
 -- FRESH STAMPS (document 01, demand 3): new stamps are fresh, and every query keeps them fresh, whatever the tables, the box and the room are,
 -- refused or not, and also where the epoch passes the largest number and all marks are cleared. As an epoch begins no mark is the epoch. Assumes nothing.
+use Rattle.std.proofs.Common.{None, Option, Some}
 use Prim.Native.Nat.{ℕ, ◌≤◌, ◌<◌}
 use mathlib.Core.Path.{◌≡◌, refl}
 use mathlib.Core.List.{List, [], ◌∷◌}
@@ -16,9 +17,8 @@ use Rattle.grid.specs.Stamps.{epoch_after, marks_begun, stamped, Fresh}
 use Rattle.grid.specs.Entries.{entries_in}
 use Rattle.grid.specs.Query.{outcome_by, outcome}
 use Rattle.grid.specs.declared.Grid.{Grid}
-use Rattle.grid.specs.declared.Range.{Range}
-use Rattle.grid.specs.declared.Range.TheVariants.{Cells, Nothing}
 use Rattle.grid.proofs.Stamping.{stamped_nil, stamped_cons}
+use Rattle.grid.specs.declared.CellRange.{CellRange}
 
 -- `new_stamps`
 pub new_fresh : (n : ℕ) → Fresh 0 (replicate n 0)
@@ -41,10 +41,10 @@ pub stamped_fresh : (e : ℕ) (m xs : List ℕ) → Fresh e m → Fresh e (stamp
 stamped_fresh e m [] k = rw stamped_nil k
 stamped_fresh e m (x ∷ xs) k = rw stamped_cons (stamped_fresh e (set m x e) xs (mark_fresh e x m k))
 
-query_by : (g : Grid) (q : Range) (starts items m : List ℕ) (e k : ℕ) → Fresh e m → Fresh (outcome_by g q starts items m e k).epoch (outcome_by g q starts items m e k).marks
+query_by : (g : Grid) (q : (Option CellRange)) (starts items m : List ℕ) (e k : ℕ) → Fresh e m → Fresh (outcome_by g q starts items m e k).epoch (outcome_by g q starts items m e k).marks
 unfolding outcome_by
-query_by g Nothing starts items m e k f = f
-query_by g (Cells r) starts items m e k f = stamped_fresh (epoch_after e) (marks_begun e m) (entries_in g r starts items) (λ i. le_of_lt (begun_bare e m f i))
+query_by g None starts items m e k f = f
+query_by g (Some r) starts items m e k f = stamped_fresh (epoch_after e) (marks_begun e m) (entries_in g r starts items) (λ i. le_of_lt (begun_bare e m f i))
 
 -- EVERY BOX QUERY keeps the stamps fresh
 pub query_fresh : (g : Grid) (b : Aabb) (starts items m : List ℕ) (e k : ℕ) → Fresh e m → Fresh (outcome g b starts items m e k).epoch (outcome g b starts items m e k).marks

@@ -1,5 +1,6 @@
 -- A box's range lies in the grid, whatever the floats are: `x.clamp(0.0, last as f64) as usize` is at most `last`, also for a NaN.
 -- Assumes nothing.
+use Rattle.std.proofs.Common.{Option, None, Some}
 use Prim.Native.Nat.{ℕ, ◌+◌, ◌-◌, ◌*◌, ◌/◌, ◌^◌, ◌≤◌, ◌<◌, min, zero-le}
 use mathlib.Core.Path.{◌≡◌, refl, sym, ap, ◌∙◌}
 use mathlib.Core.Bool.{Bool, true, false, not, cond, true≢false}
@@ -17,7 +18,6 @@ use Rattle.geom.specs.Box.{is_empty_of}
 use Rattle.grid.specs.Range.{count_f, cell_index, range_by, range_of, InGrid}
 use Rattle.grid.specs.declared.CellRange.{CellRange}
 use Rattle.grid.specs.declared.Grid.{Grid}
-use Rattle.grid.specs.declared.Range.TheVariants.{Cells, Nothing}
 
 cap : (a c b : ℕ) → a ≤ b → min a c ≤ b
 cap a c b h = omega arith
@@ -72,12 +72,12 @@ index_le x last h = go (lt x zero_f) (lt (count_f last) x) (λ t. cast_under las
     go false true f = cast_value last (count_f last) value
     go false false f = f tt
 
-never : {A : Type 0} (r : CellRange) → Nothing ≡ Cells r → A
+never : {A : Type 0} (r : CellRange) → None ≡ Some r → A
 never r e = let z : ◌≡◌ {A = ℕ} 0 1 = cc in absurd (omega arith)
 
 -- a range that is no Nothing passed the five tests
 past : (a b c d e : Bool) (q r : CellRange)
-    → cond a Nothing (cond b Nothing (cond c Nothing (cond d Nothing (cond e Nothing (Cells q))))) ≡ Cells r → q ≡ r
+    → cond a None (cond b None (cond c None (cond d None (cond e None (Some q))))) ≡ Some r → q ≡ r
 past true b c d e q r k = never r k
 past false true c d e q r k = never r k
 past false false true d e q r k = never r k
@@ -86,7 +86,7 @@ past false false false false true q r k = never r k
 past false false false false false q r k = cc
 
 by_in : (g : Grid) (empty : Bool) (c0 r0 c1 r1 : Float) (r : CellRange) → 0 < g.cols → 0 < g.rows → g.cols < 2 ^ 32 → g.rows < 2 ^ 32
-    → range_by (g.cols - 1) (g.rows - 1) empty c0 r0 c1 r1 ≡ Cells r → InGrid g r
+    → range_by (g.cols - 1) (g.rows - 1) empty c0 r0 c1 r1 ≡ Some r → InGrid g r
 unfolding range_by
 by_in g empty c0 r0 c1 r1 r p q m n e =
     let f = past (lt c1 zero_f) (lt r1 zero_f) (lt (count_f (g.cols - 1)) c0) (lt (count_f (g.rows - 1)) r0) empty (record { c0 = cell_index c0 (g.cols - 1); r0 = cell_index r0 (g.rows - 1); c1 = cell_index c1 (g.cols - 1); r1 = cell_index r1 (g.rows - 1) }) r e in
@@ -99,23 +99,23 @@ by_in g empty c0 r0 c1 r1 r p q m n e =
     })
 
 -- THE RANGE of a box, where it has one, lies in a grid of at least one column and one row
-pub range_in : (g : Grid) (b : Aabb) (r : CellRange) → 0 < g.cols → 0 < g.rows → g.cols < 2 ^ 32 → g.rows < 2 ^ 32 → range_of g b ≡ Cells r → InGrid g r
+pub range_in : (g : Grid) (b : Aabb) (r : CellRange) → 0 < g.cols → 0 < g.rows → g.cols < 2 ^ 32 → g.rows < 2 ^ 32 → range_of g b ≡ Some r → InGrid g r
 unfolding range_of
 range_in g b r p q m n e = by_in g _ _ _ _ _ r p q m n e
 
 -- AN EMPTY BOX has no range
-none_past : (a b c d : Bool) → cond a Nothing (cond b Nothing (cond c Nothing (cond d Nothing Nothing))) ≡ Nothing
-none_past true b c d = refl
-none_past false true c d = refl
-none_past false false true d = refl
-none_past false false false true = refl
-none_past false false false false = refl
+none_past : (n : Option CellRange) (a b c d : Bool) → cond a n (cond b n (cond c n (cond d n n))) ≡ n
+none_past n true b c d = refl
+none_past n false true c d = refl
+none_past n false false true d = refl
+none_past n false false false true = refl
+none_past n false false false false = refl
 
-none_by : (mc mr : ℕ) (c0 r0 c1 r1 : Float) → range_by mc mr true c0 r0 c1 r1 ≡ Nothing
+none_by : (mc mr : ℕ) (c0 r0 c1 r1 : Float) → range_by mc mr true c0 r0 c1 r1 ≡ None
 unfolding range_by
-none_by mc mr c0 r0 c1 r1 = none_past (lt c1 zero_f) (lt r1 zero_f) (lt (count_f mc) c0) (lt (count_f mr) r0)
+none_by mc mr c0 r0 c1 r1 = none_past None (lt c1 zero_f) (lt r1 zero_f) (lt (count_f mc) c0) (lt (count_f mr) r0)
 
-pub empty_none : (g : Grid) (b : Aabb) → is_empty_of b ≡ true → range_of g b ≡ Nothing
+pub empty_none : (g : Grid) (b : Aabb) → is_empty_of b ≡ true → range_of g b ≡ None
 unfolding range_of
 empty_none g b h = rw h (none_by _ _ _ _ _ _)
 

@@ -1,7 +1,7 @@
 -- Columns, rows and the cells that a box covers, as the Rust works them out (`grid.rs`, `build` and `cell_range`). Document 01, "Site and grid".
 -- `floor_of`, `clamp_of` and `to_unsigned 64` are Rust's `floor`, `clamp` and `as usize`: clamp keeps a NaN, and the cast takes it to 0.
 -- Definitions only.
-use Rattle.std.specs.Prelude.{ℕ, ◌+◌, ◌-◌, ◌<◌, min, Bool, cond, not, ◌&&◌, ◌||◌, pos, Float}
+use Rattle.std.specs.Prelude.{ℕ, ◌+◌, ◌-◌, ◌<◌, min, Bool, cond, not, ◌&&◌, ◌||◌, pos, Float, None, Option, Some}
 use Rattle.std.specs.Float.{binary64}
 use Rattle.std.specs.Float.Ieee.{lt, le, of_int, to_unsigned}
 use Rattle.num.specs.Ops.{◌⊖◌, ◌⊗◌, ◌⊘◌, zero_f}
@@ -12,8 +12,6 @@ use Rattle.geom.specs.Box.{is_empty_of}
 use Rattle.grid.specs.declared.CellRange.{CellRange}
 use Rattle.grid.specs.declared.Dims.{Dims}
 use Rattle.grid.specs.declared.Grid.{Grid}
-use Rattle.grid.specs.declared.Range.{Range}
-use Rattle.grid.specs.declared.Range.TheVariants.{Cells, Nothing}
 
 abbrev pub dims_of : Grid → Dims
 dims_of g = record { cols = g.cols; rows = g.rows }
@@ -35,17 +33,17 @@ unfoldable pub cell_index : Float → ℕ → ℕ
 cell_index x last = to_unsigned 64 (clamp_of x zero_f (count_f last))
 
 -- the range of the four floors, in a grid whose last column is mc and whose last row is mr: none where it lies wholly off the grid or the box is empty
-unfoldable pub range_by : ℕ → ℕ → Bool → Float → Float → Float → Float → Range
+unfoldable pub range_by : ℕ → ℕ → Bool → Float → Float → Float → Float → Option CellRange
 range_by mc mr empty c0 r0 c1 r1 =
-    cond (lt c1 zero_f) Nothing
-    (cond (lt r1 zero_f) Nothing
-    (cond (lt (count_f mc) c0) Nothing
-    (cond (lt (count_f mr) r0) Nothing
-    (cond empty Nothing
-    (Cells (record { c0 = cell_index c0 mc; r0 = cell_index r0 mr; c1 = cell_index c1 mc; r1 = cell_index r1 mr }))))))
+    cond (lt c1 zero_f) None
+    (cond (lt r1 zero_f) None
+    (cond (lt (count_f mc) c0) None
+    (cond (lt (count_f mr) r0) None
+    (cond empty None
+    (Some (record { c0 = cell_index c0 mc; r0 = cell_index r0 mr; c1 = cell_index c1 mc; r1 = cell_index r1 mr }))))))
 
 -- the cells that a box covers
-unfoldable pub range_of : Grid → Aabb → Range
+unfoldable pub range_of : Grid → Aabb → Option CellRange
 range_of g b =
     range_by (g.cols - 1) (g.rows - 1) (is_empty_of b)
     (cell_at b.min.x g.origin.x g.inv_cell) (cell_at b.min.y g.origin.y g.inv_cell)

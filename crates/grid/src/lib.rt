@@ -14,6 +14,7 @@ ghost use Rattle.grid.specs.Entries.{cell_of, entries_in, SoundGrid, RowIn, row_
 ghost use Rattle.grid.specs.Query.{Is, outcome, outcome_by, items_at};
 
 use geom::{Aabb, Vec2};
+use refusal::Refusal;
 
 // The Rust's `UniformGrid` without its two tables, `starts` and `items`.
 #[derive(Clone, Copy)]
@@ -41,13 +42,6 @@ pub struct CellRange {
     pub r1: u32,
 }
 
-// What `cell_range` answers: the Rust's `Option<CellRange>`.
-#[derive(Clone, Copy)]
-pub enum Range {
-    Cells(CellRange),
-    Nothing,
-}
-
 // How many numbers a box takes in a list of boxes.
 const BOX: usize = 4;
 
@@ -58,12 +52,12 @@ fn box_from(boxes: &[f64], at: usize) -> Aabb
 {
     Aabb {
         min: Vec2 {
-            x: lists::at64(boxes, at),
-            y: lists::at64(boxes, at + 1),
+            x: lists::at(boxes, at),
+            y: lists::at(boxes, at + 1),
         },
         max: Vec2 {
-            x: lists::at64(boxes, at + 2),
-            y: lists::at64(boxes, at + 3),
+            x: lists::at(boxes, at + 2),
+            y: lists::at(boxes, at + 3),
         },
     }
 }
@@ -107,26 +101,26 @@ fn cell_index(y: f64, n: u32) -> u32
 
 // The range of the four edges, in a grid of nc columns and nr rows. The Rust compares their floors: floor(y) > n - 1 exactly if y >= n,
 // and floor(y) < 0 exactly if y < 0, so no floor is worked out here.
-fn held(nc: u32, nr: u32, empty: bool, c0: f64, r0: f64, c1: f64, r1: f64) -> Range
+fn held(nc: u32, nr: u32, empty: bool, c0: f64, r0: f64, c1: f64, r1: f64) -> Option<CellRange>
     requires { (0 < nc) × (0 < nr) }
     ensures { result ≡ range_by (nc - 1) (nr - 1) empty (floor_of c0) (floor_of r0) (floor_of c1) (floor_of r1) }
 {
     if c1 < 0.0 {
-        return Range::Nothing;
+        return None;
     }
     if r1 < 0.0 {
-        return Range::Nothing;
+        return None;
     }
     if c0 >= nc as f64 {
-        return Range::Nothing;
+        return None;
     }
     if r0 >= nr as f64 {
-        return Range::Nothing;
+        return None;
     }
     if empty {
-        return Range::Nothing;
+        return None;
     }
-    Range::Cells(CellRange {
+    Some(CellRange {
         c0: cell_index(c0, nc),
         r0: cell_index(r0, nr),
         c1: cell_index(c1, nc),
@@ -146,7 +140,7 @@ impl Grid {
     }
 
     // The cells that the box b covers.
-    pub fn cell_range(self, b: Aabb) -> Range
+    pub fn cell_range(self, b: Aabb) -> Option<CellRange>
         ensures { result ≡ range_of self b }
     {
         held(
@@ -166,7 +160,7 @@ pub fn new_stamps(marks: &mut [u32], epoch: &mut u32)
     ensures epoch_after { epoch.new ≡ 0 }
     ensures marks_after { marks.new ≡ replicate (length marks.old) 0 }
 {
-    lists::clear32(marks);
+    lists::clear(marks);
     *epoch = 0;
 }
 
@@ -179,7 +173,7 @@ pub fn next_epoch(marks: &mut [u32], epoch: &mut u32)
     if e < 4294967295 {
         *epoch = e + 1;
     } else {
-        lists::clear32(marks);
+        lists::clear(marks);
         *epoch = 1;
     }
 }
@@ -208,8 +202,8 @@ pub fn cell_items<'a>(starts: &[u32], items: &'a [u32], c: usize) -> &'a [u32]
     if starts.len() <= c {
         return &items[0..0];
     }
-    let a = lists::wide(starts[c]);
-    let z = lists::least(lists::wide(lists::at32(starts, c + 1)), items.len());
+    let a = starts[c] as usize;
+    let z = (lists::at(starts, c + 1) as usize).min(items.len());
     if z < a {
         return &items[0..0];
     }
@@ -253,11 +247,11 @@ struct Tally {
     read: usize,
 }
 
-// What a list writer answers: how many ids it wrote and how many entries it read, or the refusal's number.
+// What a list writer answers: how many ids it wrote and how many entries it read.
 #[derive(Clone, Copy)]
-pub enum Listing {
-    Listed { written: usize, read: usize },
-    Refused(u32),
+pub struct Listing {
+    pub written: usize,
+    pub read: usize,
 }
 
 // Meets the ids of a part of the item list: stamps each, and writes those met first in this epoch from place n on, as far as there is
@@ -269,14 +263,11 @@ fn stamp_part(part: &[u32], marks: &mut [u32], e: u32, ids: &mut [u32], n: usize
     ensures ids_after { ids.new ≡ sets ids.old n (firsts e marks.old part.now) }
 {
     let mut at = n;
-    let mut i: usize = 0;
-    while i < part.len() {
-        let id = part[i];
-        if mark(&mut *marks, e, id) {
-            lists::put32(&mut *ids, at, id);
+    for id in part {
+        if mark(&mut *marks, e, *id) {
+            lists::put(&mut *ids, at, *id);
             at += 1;
         }
-        i += 1;
     }
     at
 }
@@ -334,13 +325,12 @@ fn stamp_rows(
 {
     let cols = g.cols as usize;
     let c0 = r.c0 as usize;
+    let r0 = r.r0 as usize;
     let r1 = r.r1 as usize;
     let width = count(r.c0, r.c1);
-    let mut row = r.r0 as usize;
     let mut t = Tally { found: 0, read: 0 };
-    while row <= r1 {
+    for row in r0..r1 + 1 {
         t = stamp_row(starts, items, row * cols + c0, width, marks, e, ids, t);
-        row += 1;
     }
     t
 }
@@ -354,24 +344,24 @@ fn range_query(
     marks: &mut [u32],
     epoch: &mut u32,
     ids: &mut [u32],
-) -> Listing
+) -> Result<Listing, Refusal>
     requires sound_grid { SoundGrid g.cols g.rows starts.now items.now }
     requires in_grid { InGrid g r }
-    ensures { Is (outcome_by g (Range.Cells r) starts.now items.now marks.old epoch.old (length ids.old))
+    ensures { Is (outcome_by g (Some r) starts.now items.now marks.old epoch.old (length ids.old))
         result marks.new epoch.new ids.new }
 {
     next_epoch(marks, epoch);
     let t = stamp_rows(g, starts, items, r, marks, *epoch, ids);
     let n = t.found;
     if ids.len() < n {
-        lists::clear32(ids);
-        return Listing::Refused(8);
+        lists::clear(ids);
+        return Err(Refusal::NoListRoom);
     }
-    lists::clear_from32(ids, n);
-    Listing::Listed {
+    lists::clear_from(ids, n);
+    Ok(Listing {
         written: n,
         read: t.read,
-    }
+    })
 }
 
 // `for_each_in_aabb` as a list writer: the ids whose cells the box b covers, each once, in the order of their first meeting.
@@ -383,19 +373,19 @@ pub fn box_query(
     marks: &mut [u32],
     epoch: &mut u32,
     ids: &mut [u32],
-) -> Listing
+) -> Result<Listing, Refusal>
     requires { SoundGrid g.cols g.rows starts.now items.now }
     ensures { Is (outcome g b starts.now items.now marks.old epoch.old (length ids.old))
         result marks.new epoch.new ids.new }
 {
     match g.cell_range(b) {
-        Range::Nothing => {
-            lists::clear32(&mut *ids);
-            Listing::Listed {
+        None => {
+            lists::clear(&mut *ids);
+            Ok(Listing {
                 written: 0,
                 read: 0,
-            }
+            })
         }
-        Range::Cells(r) => range_query(g, starts, items, r, marks, epoch, ids),
+        Some(r) => range_query(g, starts, items, r, marks, epoch, ids),
     }
 }

@@ -1,5 +1,5 @@
 -- The cast as a whole: no bucket, and the walk of one. Assumes nothing.
-use Rattle.std.proofs.Common.{◌≡◌, ℕ, zero, suc, ◌+◌, ◌-◌, ◌<◌, ◌≤◌, true, false, List, [], ◌∷◌, map, length, get_or, take, drop, sym, refl, ap, ◌∙◌, ⊎_elim, arith, length-take}
+use Rattle.std.proofs.Common.{◌≡◌, ℕ, zero, suc, ◌+◌, ◌-◌, ◌<◌, ◌≤◌, List, [], ◌∷◌, map, length, get_or, take, drop, sym, refl, ap, ◌∙◌, ⊎_elim, arith, length-take, None, Some}
 use lib.ListN.{length-map}
 use lib.Ieee.{Float}
 use Rattle.lists.specs.Parts.{part}
@@ -10,7 +10,6 @@ use Rattle.num.specs.Ops.{zero_f}
 use Rattle.num.specs.Num.{max_of}
 use Rattle.geom.specs.Constants.{nano}
 use Rattle.geom.specs.declared.Vec2.{Vec2}
-use Rattle.site.specs.declared.Cast.TheVariants.{Hit, Miss}
 use Rattle.room.specs.declared.Rooms.{Rooms}
 use Rattle.room.specs.declared.LocalEdge.{LocalEdge}
 use Rattle.room.specs.Layout.{starts_w, refs_w}
@@ -20,11 +19,12 @@ use Rattle.index.specs.declared.Best.{Best}
 use Rattle.index.specs.Spans.{bucket_of}
 use Rattle.index.specs.Casting.{none_yet, cast_by, stop_of, meet_of, walk_of, tested_of, turned_of, bucket_at, cast_within, is_tied, tested_in}
 use Rattle.index.specs.Stands.{refs_at, index_in, WalkedAt}
+use Rattle.site.specs.Hits.{hit_at}
 
-pub cast_hit : (b : Best) → b.found ≡ true → Hit b.t b.edge ≡ cast_by b
-cast_hit b e = rw e
+pub cast_hit : (b : Best) (edge : ℕ) → b.edge ≡ Some edge → hit_at b.t edge ≡ cast_by b
+cast_hit b edge e = rw e
 
-pub cast_miss : (b : Best) → b.found ≡ false → Miss ≡ cast_by b
+pub cast_miss : (b : Best) → b.edge ≡ None → None ≡ cast_by b
 cast_miss b e = rw e
 
 bucket_below : (x : AngularIndex) (a : Float) → 0 < x.buckets → bucket_of x a < x.buckets

@@ -120,20 +120,19 @@ module _ (k : Rooms) (floats : List Float) (x : AngularIndex) (total : Float) (n
         sum_last : sum_to many (suc x.buckets) ≡ many_by k floats x total (order_in k w₀ n)
         sum_last = omega (arith, many_past x.buckets (omega arith))
 
-        pub sum_room : (count : ℕ) → count ≡ x.buckets → (count < length (mid_of st (se - st) w₂)) × (sum_to (tally_of (mid_of st (se - st) w₂)) (suc count) ≤ 4294967295)
-        sum_room count e =
-            let top : sum_to (tally_of (mid_of st (se - st) w₂)) (suc count) ≡ sum_to many (suc x.buckets)
-            = ap (λ (q : ℕ). sum_to (tally_of (mid_of st (se - st) w₂)) (suc q)) e ∙ sum_to_lem x.buckets (omega arith) in (
-              omega (arith, mid_len st se w₂ (se_fits w₂ long₂), hst, hse),
-              omega (arith, top, sum_last, pre.small),
-            )
+        pub sum_room : sum_to (tally_of (mid_of st (se - st) w₂)) (length (mid_of st (se - st) w₂)) ≤ 4294967295
+        sum_room =
+            let long : length (mid_of st (se - st) w₂) ≡ suc x.buckets = omega (arith, mid_len st se w₂ (se_fits w₂ long₂), hst, hse) in
+            let top : sum_to (tally_of (mid_of st (se - st) w₂)) (length (mid_of st (se - st) w₂)) ≡ sum_to many (suc x.buckets)
+            = ap (sum_to (tally_of (mid_of st (se - st) w₂))) long ∙ sum_to_lem x.buckets (omega arith) in
+            omega (arith, top, sum_last, pre.small)
 
         -- ---- summed up
-        module _ (count : ℕ) (hc : count ≡ x.buckets) (v : List ℕ) (lv : length v ≡ length (mid_of st (se - st) w₂)) (low : (b : ℕ) → b ≤ count → get_or v b 0 ≡ sum_to (tally_of (mid_of st (se - st) w₂)) (suc b)) where
+        module _ (count : ℕ) (hc : count ≡ x.buckets) (v : List ℕ) (lv : length v ≡ length (mid_of st (se - st) w₂)) (low : (b : ℕ) → b < length (mid_of st (se - st) w₂) → get_or v b 0 ≡ sum_to (tally_of (mid_of st (se - st) w₂)) (suc b)) where
           summed_at : (b : ℕ) → b ≤ x.buckets → get_or (put_mid st (se - st) w₂ v) (st + b) 0 ≡ sum_to many (suc b)
           summed_at b g =
               let m = mid_len st se w₂ (se_fits w₂ long₂) in
-              get_d_put st se w₂ v b 0 (omega (arith, se_fits w₂ long₂, hst, hse)) (omega (arith, lv, m, hst, hse)) ∙ low b (omega arith) ∙ sum_to_lem b g
+              get_d_put st se w₂ v b 0 (omega (arith, se_fits w₂ long₂, hst, hse)) (omega (arith, lv, m, hst, hse)) ∙ low b (omega (arith, m, hst, hse)) ∙ sum_to_lem b g
 
           pub last_in : st + count < length (put_mid st (se - st) w₂ v)
           last_in = omega (arith, se_fits w₂ long₂, hst, hse, hc, same_len_mid st (se - st) w₂ v lv)

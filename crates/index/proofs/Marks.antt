@@ -52,29 +52,27 @@ marked_both {p} {q} {c} {d} {l} {m} {n} f g =
     record { tallies = λ b. omega (arith, f.tallies b, g.tallies b); rest = λ j h. g.rest j (omega arith) ∙ f.rest j (omega arith) }
 
 -- ---- the sums
-pub record Summing (w₀ w : List ℕ) (n b tally sum : ℕ) : Type 0 where
-  pub few : b ≤ suc n
+pub record Summing (w₀ w : List ℕ) (b tally sum : ℕ) : Type 0 where
   pub long : length w ≡ length w₀
   pub done : (j : ℕ) → j < b → get_or w j 0 ≡ sum_to (tally_of w₀) (suc j)
   pub left : (j : ℕ) → b ≤ j → get_or w j 0 ≡ get_or w₀ j 0
   pub tally_is : tally ≡ sum_to (λ j. get_or w₀ j 0) b % 4294967296
   pub sum_is : sum ≡ sum_to (tally_of w₀) b
 
-pub summing_none : (w₀ : List ℕ) (n : ℕ) → Summing w₀ w₀ n 0 0 0
-summing_none w₀ n = record { few = omega arith; long = refl; done = λ j h. absurd (omega arith); left = λ j h. refl; tally_is = refl; sum_is = refl }
+pub summing_none : (w₀ : List ℕ) → Summing w₀ w₀ 0 0 0
+summing_none w₀ = record { long = refl; done = λ j h. absurd (omega arith); left = λ j h. refl; tally_is = refl; sum_is = refl }
 
-module _ (w₀ w : List ℕ) (n b tally sum : ℕ) (h : b ≤ n) (fits : n < length w₀) (t : Summing w₀ w n b tally sum) (next : ℕ) (hn : next ≡ (tally + get_or w b 0) % 4294967296) where
+module _ (w₀ w : List ℕ) (b tally sum : ℕ) (h : b < length w₀) (t : Summing w₀ w b tally sum) (next : ℕ) (hn : next ≡ (tally + get_or w b 0) % 4294967296) where
   next_is : next ≡ tally_of w₀ b
   next_is = omega (arith, hn, t.left b (le_refl b), t.tally_is)
 
-  pub sum_small : sum_to (tally_of w₀) (suc n) ≤ 4294967295 → sum + next ≤ 4294967295
-  sum_small small = omega (arith, small, t.sum_is, next_is, sum_to_mono (tally_of w₀) (suc b) (suc n) (omega arith))
+  pub sum_small : sum_to (tally_of w₀) (length w₀) ≤ 4294967295 → sum + next ≤ 4294967295
+  sum_small small = omega (arith, small, t.sum_is, next_is, sum_to_mono (tally_of w₀) (suc b) (length w₀) (omega arith))
 
-  pub summing_more : Summing w₀ (set w b (sum + next)) n (b + 1) next (sum + next)
+  pub summing_more : Summing w₀ (set w b (sum + next)) (b + 1) next (sum + next)
   summing_more =
       let s : sum + next ≡ sum_to (tally_of w₀) (suc b) = omega (arith, t.sum_is, next_is) in
       record {
-        few = omega arith;
         long = length-set w b (sum + next) ∙ t.long;
         done = λ j g.
             ⊎_elim

@@ -1,20 +1,18 @@
 -- MODE 0 IS THE RUST'S RULE: `rust_cast_lem`: a cast over an index in mode 0 is the cast of specs/Rust.antt, which knows no mode. Assumes nothing.
-use Rattle.std.proofs.Common.{◌≡◌, ℕ, Bool, true, false, cond, List, [], ◌∷◌, refl, ap, ◌∙◌}
+use Rattle.std.proofs.Common.{◌≡◌, ℕ, Bool, true, false, cond, List, [], ◌∷◌, refl, ap, ◌∙◌, None, Option, Some}
 use lib.Ieee.{Float, lt, le, eq}
 use Rattle.geom.specs.Constants.{nano}
 use Rattle.geom.specs.Segment.{ray_segment_within}
 use Rattle.geom.specs.declared.Vec2.{Vec2}
-use Rattle.geom.specs.declared.Reach.{Reach}
-use Rattle.geom.specs.declared.Reach.TheVariants as reach
 use Rattle.room.specs.declared.LocalEdge.{LocalEdge}
 use Rattle.index.specs.declared.Best.{Best}
 use Rattle.index.specs.Angular.{Index}
 use Rattle.index.specs.Casting.{best_of, none_yet, cast_by, better_of, meet_of, walk_of, bucket_at, cast_within, cast_of}
 use Rattle.index.specs.Rust.{rust_better, rust_walk, rust_cast}
 
-better_rust : (r : Reach) (edge : ℕ) (b : Best) → better_of 0 r edge b ≡ rust_better r edge b
-better_rust reach.Miss edge b = refl
-better_rust (reach.Hit t) edge b = by (lt t b.t) (eq t b.t)
+better_rust : (r : (Option Float)) (edge : ℕ) (b : Best) → better_of 0 r edge b ≡ rust_better r edge b
+better_rust None edge b = refl
+better_rust (Some t) edge b = by (lt t b.t) (eq t b.t)
   where
     by : (p q : Bool) → cond p (best_of t edge) (cond q b b) ≡ cond p (best_of t edge) b
     by true q = refl

@@ -1,14 +1,13 @@
 -- Each way through `clip`, `span_buckets`, `ends_at`, `lower`, `meet`, `stops` and `ties`, over plain values: the tests and the callees' answers as equations. Assumes nothing.
-use Rattle.std.proofs.Common.{◌≡◌, ℕ, ◌+◌, ◌*◌, ◌<◌, ◌≤◌, Bool, true, false, List, [], get_or, sym, ap, ◌∙◌, le-ltb, lt-ltb, eq-eqb, ne_eqb}
+use Rattle.std.proofs.Common.{◌≡◌, ℕ, ◌+◌, ◌*◌, Bool, true, false, cond, eqb, List, [], get_or, sym, refl, ap, ◌∙◌, ⊎_elim, arith, min, le-ltb, lt-ltb, eq-eqb, ne_eqb, None, Option, Some}
 use lib.Ieee.{Float, nan, lt, le, eq}
+use Rattle.lists.proofs.Cases.{lt_or_le}
 use Rattle.num.specs.Ops.{◌⊕◌, ◌⊖◌, zero_f}
 use Rattle.num.specs.Num.{min_of, max_of}
 use Rattle.geom.specs.Constants.{tau, nano}
 use Rattle.geom.specs.Vec.{vec}
 use Rattle.geom.specs.Segment.{ray_segment_within}
 use Rattle.geom.specs.declared.Vec2.{Vec2}
-use Rattle.geom.specs.declared.Reach.{Reach}
-use Rattle.geom.specs.declared.Reach.TheVariants.{Hit, Miss}
 use Rattle.site.specs.Meets.{met_at}
 use Rattle.room.specs.declared.Rooms.{Rooms}
 use Rattle.room.specs.Layout.{edges_f}
@@ -19,7 +18,7 @@ use Rattle.index.specs.declared.Spans.{Spans}
 use Rattle.index.specs.declared.Best.{Best}
 use Rattle.index.specs.declared.Ends.{Ends}
 use Rattle.index.specs.Spans.{bucket_of, stretch, both, clip_of, spans_by}
-use Rattle.index.specs.Casting.{best_of, tied_best, lower_of, better_of, stop_of, ties_at}
+use Rattle.index.specs.Casting.{best_of, lower_in, lower_of, better_of, stop_of, ties_at}
 use Rattle.index.specs.Filling.{spans_at}
 
 module _ (x : AngularIndex) (total lo hi : Float) {l h : Float} (hl : l ≡ max_of (lo ⊖ nano) zero_f) (hh : h ≡ min_of (hi ⊕ nano) total) where
@@ -59,17 +58,22 @@ module _ (k : Rooms) (floats : List Float) (i : ℕ) {f n : ℕ} (hf : f ≡ edg
 
 -- of equal distances
 module _ (mode edge : ℕ) (b : Best) where
+  pub lower_so : (mode ≡ 0 → ⊥) → (e : ℕ) → b.edge ≡ Some e → record { t = b.t; edge = Some (min edge e); tied = true } ≡ lower_of mode edge b
+  lower_so h e f = rw (ne_eqb mode 0 h, f)
+      (⊎_elim
+      (λ l. let m : min edge e ≡ edge = omega arith in rw (lt-ltb edge e l, m))
+      (λ l. let m : min edge e ≡ e = omega arith in rw (le-ltb edge e l, m))
+      (lt_or_le edge e))
+
   pub lower_rust : mode ≡ 0 → b ≡ lower_of mode edge b
-  lower_rust e = rw (eq-eqb mode 0 e)
+  lower_rust h = rw (eq-eqb mode 0 h)
 
-  pub lower_none : (mode ≡ 0 → ⊥) → b.found ≡ false → b ≡ lower_of mode edge b
-  lower_none h f = rw (ne_eqb mode 0 h, f)
-
-  pub lower_not : (mode ≡ 0 → ⊥) → b.found ≡ true → b.edge ≤ edge → tied_best b.t b.edge ≡ lower_of mode edge b
-  lower_not h f l = rw (ne_eqb mode 0 h, f, le-ltb edge b.edge l)
-
-  pub lower_so : (mode ≡ 0 → ⊥) → b.found ≡ true → edge < b.edge → tied_best b.t edge ≡ lower_of mode edge b
-  lower_so h f l = rw (ne_eqb mode 0 h, f, lt-ltb edge b.edge l)
+  pub lower_none : b.edge ≡ None → b ≡ lower_of mode edge b
+  lower_none f = by (eqb mode 0)
+    where
+      by : (z : Bool) → b ≡ cond z b (lower_in b.edge edge b)
+      by true = refl
+      by false = rw f
 
 -- an edge so near
 pub stop_rust : (mode : ℕ) → mode ≡ 0 → (best near : Float) → le best near ≡ stop_of mode best near
@@ -79,25 +83,25 @@ pub stop_ties : (mode : ℕ) → (mode ≡ 0 → ⊥) → (best near : Float) �
 stop_ties mode h best near = rw (ne_eqb mode 0 h)
 
 -- the better of two
-module _ (mode : ℕ) (b : Best) (edge : ℕ) {s r : Reach} (hr : r ≡ s) where
-  pub meet_hit : {t : Float} → r ≡ Hit t → lt t b.t ≡ true → {n : ℕ} → n ≡ edge → best_of t n ≡ better_of mode s edge b
+module _ (mode : ℕ) (b : Best) (edge : ℕ) {s r : (Option Float)} (hr : r ≡ s) where
+  pub meet_hit : {t : Float} → r ≡ Some t → lt t b.t ≡ true → {n : ℕ} → n ≡ edge → best_of t n ≡ better_of mode s edge b
   meet_hit e y hn = rw (sym hr ∙ e, y, hn)
 
-  pub meet_tie : {t : Float} → r ≡ Hit t → lt t b.t ≡ false → eq t b.t ≡ true → {n : ℕ} → n ≡ edge → {q : Best} → q ≡ lower_of mode n b → q ≡ better_of mode s edge b
+  pub meet_tie : {t : Float} → r ≡ Some t → lt t b.t ≡ false → eq t b.t ≡ true → {n : ℕ} → n ≡ edge → {q : Best} → q ≡ lower_of mode n b → q ≡ better_of mode s edge b
   meet_tie e y z hn hq = rw (sym hr ∙ e, y, z) (hq ∙ ap (λ (i : ℕ). lower_of mode i b) hn)
 
-  pub meet_far : {t : Float} → r ≡ Hit t → lt t b.t ≡ false → eq t b.t ≡ false → b ≡ better_of mode s edge b
+  pub meet_far : {t : Float} → r ≡ Some t → lt t b.t ≡ false → eq t b.t ≡ false → b ≡ better_of mode s edge b
   meet_far e y z = rw (sym hr ∙ e, y, z)
 
-  pub meet_past : r ≡ Miss → b ≡ better_of mode s edge b
+  pub meet_past : r ≡ None → b ≡ better_of mode s edge b
   meet_past e = rw (sym hr ∙ e)
 
 -- the edge is met there
-module _ (t : Float) {s r : Reach} (hr : r ≡ s) where
-  pub tie_hit : {u : Float} → r ≡ Hit u → eq u t ≡ met_at t s
+module _ (t : Float) {s r : (Option Float)} (hr : r ≡ s) where
+  pub tie_hit : {u : Float} → r ≡ Some u → eq u t ≡ met_at t s
   tie_hit e = rw (sym hr ∙ e)
 
-  pub tie_past : r ≡ Miss → false ≡ met_at t s
+  pub tie_past : r ≡ None → false ≡ met_at t s
   tie_past e = rw (sym hr ∙ e)
 
 pub tie_is : (slack : Float) (o dir : Vec2) (t : Float) (k : Rooms) (floats : List Float) (i : ℕ) {e : Ends} → (e.a ≡ (edge_at k floats [] i).a) × (e.b ≡ (edge_at k floats [] i).b)

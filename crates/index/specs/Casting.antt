@@ -3,7 +3,7 @@
 -- Document 02, Q-3: in the other mode "the lowest edge number among those it tests"; "the early stop on nearness must then let equal nearness through; an
 -- edge at the range itself stays a miss". That mode 0 is the Rust's rule is `rust_cast_lem` (proofs/Rusts.antt, over specs/Rust.antt).
 -- It is not said to be the nearest of all front edges: nearness and distance round differently ("Errors that look right", 1). Definitions only.
-use Rattle.std.specs.Prelude.{ℕ, Bool, true, false, cond, List, [], ◌∷◌, ◌==◌, nat_lt, slice_index_or, Float}
+use Rattle.std.specs.Prelude.{ℕ, Bool, true, false, cond, List, [], ◌∷◌, ◌==◌, nat_lt, slice_index_or, Float, None, Option, Some}
 use Rattle.std.specs.Float.Ieee.{lt, le, eq}
 use Rattle.lists.specs.Lists.{filter}
 use Rattle.num.specs.Ops.{◌⊖◌, zero_f}
@@ -11,38 +11,46 @@ use Rattle.num.specs.Num.{max_of}
 use Rattle.geom.specs.Constants.{tau, nano}
 use Rattle.geom.specs.Segment.{ray_segment_within}
 use Rattle.geom.specs.declared.Vec2.{Vec2}
-use Rattle.geom.specs.declared.Reach.{Reach}
-use Rattle.geom.specs.declared.Reach.TheVariants as reach
 use Rattle.site.specs.Meets.{met_at}
-use Rattle.site.specs.declared.Cast.{Cast}
-use Rattle.site.specs.declared.Cast.TheVariants.{Hit, Miss}
 use Rattle.room.specs.declared.LocalEdge.{LocalEdge}
 use Rattle.index.specs.declared.Best.{Best}
 use Rattle.index.specs.Spans.{bucket_of}
 use Rattle.index.specs.Angular.{Index}
+use Rattle.site.specs.Hits.{hit_at}
+use Rattle.site.specs.declared.RayHit.{RayHit}
 
--- the best so far: the distance to beat, and, once an edge is found, its number, and whether a further one was met at exactly that distance
+-- the best so far: the distance to beat, the number of the edge once one is found, and whether a further one was met at exactly that distance
 abbrev pub best_of : Float → ℕ → Best
-best_of t edge = record { t = t; edge = edge; found = true; tied = false }
+best_of t edge = record { t = t; edge = Some edge; tied = false }
 
 abbrev pub tied_best : Float → ℕ → Best
-tied_best t edge = record { t = t; edge = edge; found = true; tied = true }
+tied_best t edge = record { t = t; edge = Some edge; tied = true }
 
 abbrev pub none_yet : Float → Best
-none_yet max = record { t = max; edge = 0; found = false; tied = false }
+none_yet max = record { t = max; edge = None; tied = false }
 
-abbrev pub cast_by : Best → Cast
-cast_by b = cond b.found (Hit b.t b.edge) Miss
+-- what an edge, or none, at the distance t answers
+abbrev pub cast_at : Float → (Option ℕ) → Option RayHit
+cast_at t (Some e) = hit_at t e
+cast_at t None = None
+
+abbrev pub cast_by : Best → Option RayHit
+cast_by b = cast_at b.t b.edge
+
+-- the lower of the best's number and another, once there is one
+abbrev pub lower_in : (Option ℕ) → ℕ → Best → Best
+lower_in (Some e) edge b = tied_best b.t (cond (nat_lt edge e) edge e)
+lower_in None edge b = b
 
 -- of equal distances: in the Rust's mode, 0, the one found first stays; in the other the lower number does, once there is one. So an edge at the range itself
 -- stays a miss
 abbrev pub lower_of : ℕ → ℕ → Best → Best
-lower_of mode edge b = cond (mode == 0) b (cond b.found (tied_best b.t (cond (nat_lt edge b.edge) edge b.edge)) b)
+lower_of mode edge b = cond (mode == 0) b (lower_in b.edge edge b)
 
 -- the better of the best so far and the edge of this number, which the ray meets there or not
-abbrev pub better_of : ℕ → Reach → ℕ → Best → Best
-better_of mode (reach.Hit t) edge b = cond (lt t b.t) (best_of t edge) (cond (eq t b.t) (lower_of mode edge b) b)
-better_of mode reach.Miss edge b = b
+abbrev pub better_of : ℕ → (Option Float) → ℕ → Best → Best
+better_of mode (Some t) edge b = cond (lt t b.t) (best_of t edge) (cond (eq t b.t) (lower_of mode edge b) b)
+better_of mode None edge b = b
 
 -- an edge so near ends the walk: in the Rust's mode one that is not nearer than the best distance, in the other one that is farther
 abbrev pub stop_of : ℕ → Float → Float → Bool
@@ -81,12 +89,12 @@ bucket_at x angle = slice_index_or x.buckets (bucket_of x.head (max_of (turned_o
 
 -- What the ray from o along dir, at the angle from the cone's start, hits within max. `slack` is how far beyond an edge's ends, as a share of its
 -- length, a hit still counts. The mode is the index's
-unfoldable pub cast_within : Float → Index → Vec2 → Float → Vec2 → Float → Cast
+unfoldable pub cast_within : Float → Index → Vec2 → Float → Vec2 → Float → Option RayHit
 unfolding walk_of bucket_at
 cast_within slack x o angle dir max = cast_by (walk_of slack o dir x.head.mode (none_yet max) (bucket_at x angle))
 
 -- the cast of the Rust: the slack of `ray_segment`, 1e-9
-unfoldable pub cast_of : Index → Vec2 → Float → Vec2 → Float → Cast
+unfoldable pub cast_of : Index → Vec2 → Float → Vec2 → Float → Option RayHit
 unfolding cast_within
 cast_of x o angle dir max = cast_within nano x o angle dir max
 

@@ -17,10 +17,9 @@ ghost use Rattle.index.specs.Casting.{lower_of, better_of, stop_of, turned_of, n
 ghost use Rattle.index.specs.Stands.{index_in, WalkedAt, Ready, Builds};
 ghost use Rattle.index.specs.Filling.{spans_at, refs_to, notes_w, said_of, said_by, meets_of, cut_of, cut_both, Notable, Notes, tally_of, Marked, Counting, Counted, Endable, Ended, PutRoom, PutBoth, Putting, Placed, Fillable, Filled};
 
-use geom::{Reach, Vec2};
-use lists::wide;
+use geom::Vec2;
 use room::Rooms;
-use site::Cast;
+use site::RayHit;
 
 const TAU: f64 = 6.283185307179586;
 
@@ -55,7 +54,8 @@ pub struct Spans {
     pub second: Stretch,
 }
 
-// What the building answers: the head, how many references there are, and whether a list passes its entries.
+// What the building answers: the head, how many references there are, and whether a list passes its entries. A flag beside them and no `Option` around
+// them: head and number are promised where a list is over too (`Builds`).
 #[derive(Clone, Copy)]
 pub struct Indexed {
     pub index: AngularIndex,
@@ -69,13 +69,7 @@ pub struct Indexed {
 fn buckets_for(n: usize) -> u32
     ensures { result ≡ buckets_for n }
 {
-    if n <= 8 {
-        return 16;
-    }
-    if 32768 <= n {
-        return 65536;
-    }
-    (2 * n) as u32
+    (2 * n.clamp(8, 32768)) as u32
 }
 
 // The head of the index of n edges. `total` is the angle covered by the cone (TAU for a full circle).
@@ -94,15 +88,8 @@ fn head(mode: u32, n: usize, total: f64) -> AngularIndex
 fn bucket(x: AngularIndex, a: f64) -> usize
     ensures { (result ≡ bucket_of x a) × (result ≤ 4294967295) }
 {
-    let b = num::to_u64(a * x.inv_width) as usize;
-    let count = wide(x.buckets);
-    if b < count {
-        return b;
-    }
-    if 0 < count {
-        return count - 1;
-    }
-    0
+    let last = (x.buckets as usize).saturating_sub(1);
+    (num::to_u64(a * x.inv_width) as usize).min(last)
 }
 
 // The buckets from lo to hi, padded.
@@ -144,8 +131,7 @@ fn span_buckets(x: AngularIndex, total: f64, start: f64, len: f64) -> Spans
 #[derive(Clone, Copy)]
 pub struct Best {
     pub t: f64,
-    pub edge: u32,
-    pub found: bool,
+    pub edge: Option<u32>,
     pub tied: bool,
 }
 
@@ -160,7 +146,7 @@ struct Ends {
 fn ends_at(k: Rooms, floats: &[f64], i: u32) -> Ends
     ensures { (result.a ≡ (edge_at k floats.now [] i).a) × (result.b ≡ (edge_at k floats.now [] i).b) }
 {
-    let at = room::edges_f(k) + 6 * wide(i);
+    let at = room::edges_f(k) + 6 * i as usize;
     if at + 4 <= floats.len() {
         return Ends {
             a: Vec2 {
@@ -175,12 +161,12 @@ fn ends_at(k: Rooms, floats: &[f64], i: u32) -> Ends
     }
     Ends {
         a: Vec2 {
-            x: lists::at64(floats, at),
-            y: lists::at64(floats, at + 1),
+            x: lists::at(floats, at),
+            y: lists::at(floats, at + 1),
         },
         b: Vec2 {
-            x: lists::at64(floats, at + 2),
-            y: lists::at64(floats, at + 3),
+            x: lists::at(floats, at + 2),
+            y: lists::at(floats, at + 3),
         },
     }
 }
@@ -189,32 +175,20 @@ fn ends_at(k: Rooms, floats: &[f64], i: u32) -> Ends
 pub fn number_at(k: Rooms, words: &[u32], i: u32) -> u32
     ensures { result ≡ (edge_at k [] words.now i).edge }
 {
-    lists::at32(words, room::edges_w(k) + wide(i))
+    lists::at(words, room::edges_w(k) + i as usize)
 }
 
 // Of equal distances: in mode 0 the best so far stays, in the other the lower number, once there is one.
 fn lower(mode: u32, edge: u32, b: Best) -> Best
     ensures { result ≡ lower_of mode edge b }
 {
-    if mode == 0 {
-        return b;
-    }
-    if !b.found {
-        return b;
-    }
-    if edge < b.edge {
-        return Best {
-            t: b.t,
-            edge,
-            found: true,
+    match b.edge {
+        Some(e) if mode != 0 => Best {
+            edge: Some(edge.min(e)),
             tied: true,
-        };
-    }
-    Best {
-        t: b.t,
-        edge: b.edge,
-        found: true,
-        tied: true,
+            ..b
+        },
+        _ => b,
     }
 }
 
@@ -232,23 +206,14 @@ fn meet(
 ) -> Best
     ensures { result ≡ better_of mode (ray_segment_within slack o dir e.a e.b) (edge_at k [] words.now i).edge b }
 {
-    let best = b.t;
     match geom::ray_segment_within(slack, o, dir, e.a, e.b) {
-        Reach::Hit(t) => {
-            if t < best {
-                return Best {
-                    t,
-                    edge: number_at(k, words, i),
-                    found: true,
-                    tied: false,
-                };
-            }
-            if t == best {
-                return lower(mode, number_at(k, words, i), b);
-            }
-            b
-        }
-        Reach::Miss => b,
+        Some(t) if t < b.t => Best {
+            t,
+            edge: Some(number_at(k, words, i)),
+            tied: false,
+        },
+        Some(t) if t == b.t => lower(mode, number_at(k, words, i), b),
+        _ => b,
     }
 }
 
@@ -286,19 +251,16 @@ fn walk(
     ensures best_value { result.best ≡ walk_of slack o dir mode (none_yet max) (map (edge_at k floats.now words.now) (part from to words.now)) }
     ensures from_value { (result.from ≡ from) × (result.to ≡ from + length (tested_of slack o dir mode (none_yet max) (map (edge_at k floats.now words.now) (part from to words.now)))) }
 {
-    let end = if to < words.len() { to } else { words.len() };
+    let end = to.min(words.len()).max(from);
     let mut b = Best {
         t: max,
-        edge: 0,
-        found: false,
+        edge: None,
         tied: false,
     };
-    let mut j = from;
-    while j < end {
+    for j in from..end {
         let i = words[j];
-        let near = lists::at64(floats, wide(i));
-        let best = b.t;
-        if stops(mode, best, near) {
+        let near = lists::at(floats, i as usize);
+        if stops(mode, b.t, near) {
             return Walked {
                 best: b,
                 from,
@@ -307,12 +269,11 @@ fn walk(
         }
         let e = ends_at(k, floats, i);
         b = meet(k, slack, o, dir, mode, e, words, i, b);
-        j += 1;
     }
     Walked {
         best: b,
         from,
-        to: j,
+        to: end,
     }
 }
 
@@ -344,8 +305,7 @@ pub fn walk_at(
         return Walked {
             best: Best {
                 t: max,
-                edge: 0,
-                found: false,
+                edge: None,
                 tied: false,
             },
             from: 0,
@@ -354,19 +314,19 @@ pub fn walk_at(
     }
     let at = room::starts_w(k) + bucket(x, num::max(turned(angle), 0.0));
     let refs = room::refs_w(k);
-    let from = refs + wide(lists::at32(words, at));
-    let to = refs + wide(lists::at32(words, at + 1));
+    let from = refs + lists::at(words, at) as usize;
+    let to = refs + lists::at(words, at + 1) as usize;
     walk(k, slack, floats, words, from, to, o, dir, x.mode, max)
 }
 
 // What a cast whose walk came to b answers.
-pub fn hit_of(b: Best) -> Cast
+pub fn hit_of(b: Best) -> Option<RayHit>
     ensures { result ≡ cast_by b }
 {
-    if b.found {
-        return Cast::Hit(b.t, b.edge);
+    match b.edge {
+        Some(edge) => Some(RayHit { t: b.t, edge }),
+        None => None,
     }
-    Cast::Miss
 }
 
 // The nearest edge that the ray from o along dir, at the angle from the cone's start, hits within max. `slack` is that of `ray_segment_within`.
@@ -380,7 +340,7 @@ pub fn cast_within(
     angle: f64,
     dir: Vec2,
     max: f64,
-) -> Cast
+) -> Option<RayHit>
     ensures { result ≡ cast_within slack (index_in k floats.now words.now x) o angle dir max }
 {
     let w = walk_at(slack, k, x, floats, words, o, angle, dir, max);
@@ -397,7 +357,7 @@ pub fn cast(
     angle: f64,
     dir: Vec2,
     max: f64,
-) -> Cast
+) -> Option<RayHit>
     ensures { result ≡ cast_of (index_in k floats.now words.now x) o angle dir max }
 {
     cast_within(1e-9, k, x, floats, words, o, angle, dir, max)
@@ -409,8 +369,8 @@ pub fn ties(k: Rooms, floats: &[f64], o: Vec2, dir: Vec2, t: f64, i: u32) -> boo
 {
     let e = ends_at(k, floats, i);
     match geom::ray_segment_within(1e-9, o, dir, e.a, e.b) {
-        Reach::Hit(s) => s == t,
-        Reach::Miss => false,
+        Some(s) => s == t,
+        None => false,
     }
 }
 
@@ -420,22 +380,19 @@ pub fn ties(k: Rooms, floats: &[f64], o: Vec2, dir: Vec2, t: f64, i: u32) -> boo
 fn width(s: Stretch) -> usize
     ensures { result ≡ width_of s }
 {
-    if s.from < s.to {
-        return s.to - s.from;
-    }
-    0
+    s.to.saturating_sub(s.from)
 }
 
 // The buckets of the edge i. They do not go by the words.
 fn edge_spans(k: Rooms, x: AngularIndex, total: f64, floats: &[f64], i: u32) -> Spans
     ensures { result ≡ spans_at k floats.now x total i }
 {
-    let at = room::edges_f(k) + 6 * wide(i);
+    let at = room::edges_f(k) + 6 * i as usize;
     span_buckets(
         x,
         total,
-        lists::at64(floats, at + 4),
-        lists::at64(floats, at + 5),
+        lists::at(floats, at + 4),
+        lists::at(floats, at + 5),
     )
 }
 
@@ -445,11 +402,9 @@ fn count_refs(k: Rooms, x: AngularIndex, total: f64, floats: &[f64], n: usize) -
     ensures { result ≡ refs_to k floats.now x total n }
 {
     let mut refs: usize = 0;
-    let mut i: usize = 0;
-    while i < n {
-        let s = edge_spans(k, x, total, floats, i as u32);
+    for i in 0..n as u32 {
+        let s = edge_spans(k, x, total, floats, i);
         refs += width(s.first) + width(s.second);
-        i += 1;
     }
     refs
 }
@@ -463,12 +418,8 @@ fn note(s: Spans) -> u32
 {
     let from = s.first.from;
     let to = s.first.to;
-    if s.second.from == 0 {
-        if s.second.to == 0 {
-            if from < to {
-                return (65536 * from + (to - 1)) as u32;
-            }
-        }
+    if s.second.from == 0 && s.second.to == 0 && from < to {
+        return (65536 * from + (to - 1)) as u32;
     }
     UNSAID
 }
@@ -479,8 +430,8 @@ fn said(p: u32) -> Spans
 {
     Spans {
         first: Stretch {
-            from: wide(p / 65536),
-            to: wide(p % 65536) + 1,
+            from: (p / 65536) as usize,
+            to: (p % 65536) as usize + 1,
         },
         second: Stretch { from: 0, to: 0 },
     }
@@ -491,14 +442,14 @@ fn meets(p: u32, lo: usize, hi: usize) -> bool
     requires { hi ≤ 131072 }
     ensures { result ≡ meets_of p lo hi }
 {
-    (wide(p) < 65536 * hi) & (lo <= wide(p % 65536))
+    ((p as usize) < 65536 * hi) & (lo <= (p % 65536) as usize)
 }
 
 // Where the notes stand: behind the order of nearness, in the scratch of its sort.
 fn notes_w(k: Rooms) -> usize
     ensures { result ≡ notes_w k }
 {
-    room::nearest_w(k) + wide(k.edges)
+    room::nearest_w(k) + k.edges as usize
 }
 
 // Notes the buckets of each edge, in order of nearness.
@@ -508,11 +459,9 @@ fn note_all(k: Rooms, x: AngularIndex, total: f64, floats: &[f64], n: usize, wor
 {
     let order = room::nearest_w(k);
     let notes = notes_w(k);
-    let mut r: usize = 0;
-    while r < n {
+    for r in 0..n {
         let i = words[order + r];
         words[notes + r] = note(edge_spans(k, x, total, floats, i));
-        r += 1;
     }
 }
 
@@ -527,8 +476,8 @@ fn mark_stretch(starts: &mut [u32], s: Stretch)
     let from = s.from;
     let to = s.to;
     if from < to {
-        starts[from] = std::num::wrapping_add_u32(starts[from], 1);
-        starts[to] = std::num::wrapping_sub_u32(starts[to], 1);
+        starts[from] = starts[from].wrapping_add(1);
+        starts[to] = starts[to].wrapping_sub(1);
     }
 }
 
@@ -541,19 +490,17 @@ fn mark_edge(starts: &mut [u32], s: Spans)
     mark_stretch(starts, s.first);
 }
 
-// Writes, at each place up to n, the sum of what the marks up to each place in front of it and up to its own come to.
-fn sum_marks(starts: &mut [u32], n: usize)
-    requires { (n < length starts.old) × (sum_to (tally_of starts.old) (suc n) ≤ 4294967295) }
-    ensures { (b : ℕ) → b ≤ n → slice_index starts.new b ≡ sum_to (tally_of starts.old) (suc b) }
+// Writes, at each place, the sum of what the marks up to each place in front of it and up to its own come to.
+fn sum_marks(starts: &mut [u32])
+    requires { sum_to (tally_of starts.old) (length starts.old) ≤ 4294967295 }
+    ensures { (b : ℕ) → b < length starts.old → slice_index starts.new b ≡ sum_to (tally_of starts.old) (suc b) }
 {
     let mut tally: u32 = 0;
     let mut sum: u32 = 0;
-    let mut b: usize = 0;
-    while b <= n {
-        tally = std::num::wrapping_add_u32(tally, starts[b]);
+    for start in starts.iter_mut() {
+        tally = tally.wrapping_add(*start);
         sum += tally;
-        starts[b] = sum;
-        b += 1;
+        *start = sum;
     }
 }
 
@@ -565,17 +512,15 @@ fn mark_all(k: Rooms, x: AngularIndex, total: f64, floats: &[f64], n: usize, wor
     let order = room::nearest_w(k);
     let notes = notes_w(k);
     let starts = room::starts_w(k);
-    let mut r = n;
-    while 0 < r {
-        let i = words[order + (r - 1)];
-        let p = words[notes + (r - 1)];
+    for r in (0..n).rev() {
+        let i = words[order + r];
+        let p = words[notes + r];
         let s = if p == UNSAID {
             edge_spans(k, x, total, floats, i)
         } else {
             said(p)
         };
         mark_edge(&mut words[starts..], s);
-        r -= 1;
     }
 }
 
@@ -591,14 +536,14 @@ fn block_ends(
     requires { Endable k floats.now x total n words.old }
     ensures { Ended k floats.now x total n words.old result words.new }
 {
-    let count = wide(x.buckets);
+    let count = x.buckets as usize;
     let starts = room::starts_w(k);
     let last = starts + count;
     let end = last + 1;
-    lists::clear32(&mut words[starts..end]);
+    lists::clear(&mut words[starts..end]);
     mark_all(k, x, total, floats, n, &mut *words);
-    sum_marks(&mut words[starts..end], count);
-    wide(words[last])
+    sum_marks(&mut words[starts..end]);
+    words[last] as usize
 }
 
 // Puts id into the blocks of the buckets of a stretch, each in front of what its block holds. The blocks' starts stand in front, the references
@@ -607,13 +552,10 @@ fn put_stretch(w: &mut [u32], refs: usize, s: Stretch, id: u32)
     requires { (s.to ≤ refs) × (refs ≤ length w.old) × Room (covers s) (take refs w.old) (drop refs w.old) }
     ensures { Put (covers s) id (take refs w.old) (drop refs w.old) (take refs w.new) (drop refs w.new) }
 {
-    let to = s.to;
-    let mut b = s.from;
-    while b < to {
+    for b in s.from..s.to {
         let at = w[b] - 1;
         w[b] = at;
-        w[refs + wide(at)] = id;
-        b += 1;
+        w[refs + at as usize] = id;
     }
 }
 
@@ -630,9 +572,10 @@ fn put_edge(w: &mut [u32], refs: usize, s: Spans, id: u32)
 fn cut(s: Stretch, lo: usize, hi: usize) -> Stretch
     ensures { result ≡ cut_of lo hi s }
 {
-    let from = if s.from < lo { lo } else { s.from };
-    let to = lists::least(s.to, hi);
-    Stretch { from, to }
+    Stretch {
+        from: s.from.max(lo),
+        to: s.to.min(hi),
+    }
 }
 
 // The same of both stretches.
@@ -654,16 +597,14 @@ fn put_all(k: Rooms, x: AngularIndex, total: f64, floats: &[f64], n: usize, word
     let order = room::nearest_w(k);
     let notes = notes_w(k);
     let starts = room::starts_w(k);
-    let refs = wide(k.starts);
-    let count = wide(x.buckets);
-    let mut lo: usize = 0;
-    while lo < count {
+    let refs = k.starts as usize;
+    let count = x.buckets as usize;
+    for lo in (0..count).step_by(STRIP) {
         let hi = lo + STRIP;
-        let mut r = n;
-        while 0 < r {
-            let p = words[notes + (r - 1)];
+        for r in (0..n).rev() {
+            let p = words[notes + r];
             if meets(p, lo, hi) {
-                let i = words[order + (r - 1)];
+                let i = words[order + r];
                 let s = if p == UNSAID {
                     edge_spans(k, x, total, floats, i)
                 } else {
@@ -671,9 +612,7 @@ fn put_all(k: Rooms, x: AngularIndex, total: f64, floats: &[f64], n: usize, word
                 };
                 put_edge(&mut words[starts..], refs, cut_both(s, lo, hi), i);
             }
-            r -= 1;
         }
-        lo = hi;
     }
 }
 
@@ -691,7 +630,7 @@ fn fill(
 {
     note_all(k, x, total, floats, n, &mut *words);
     let refs = block_ends(k, x, total, floats, n, &mut *words);
-    if wide(k.refs) < refs {
+    if (k.refs as usize) < refs {
         return Indexed {
             index: x,
             refs,
@@ -741,7 +680,7 @@ pub fn build(
     }
     // More are counted first, so that no start passes a `u32`.
     let refs = count_refs(k, x, total, floats, n);
-    if wide(k.refs) < refs {
+    if (k.refs as usize) < refs {
         return Indexed {
             index: x,
             refs,

@@ -18,10 +18,7 @@ pub mod input;
 pub fn word(s: &[u64], i: usize) -> u64
     ensures { result ≡ get_or s.now i 0 }
 {
-    if i < s.len() {
-        return s[i];
-    }
-    0
+    s.get(i).copied().unwrap_or(0)
 }
 
 // The word at i as a float.
@@ -47,12 +44,6 @@ pub fn pattern(x: f64) -> u64
     num::to_bits(x + 0.0)
 }
 
-pub fn wide(x: u32) -> u64
-    ensures { result ≡ x }
-{
-    x as u64
-}
-
 // w after the first n words; how many there are then. A full list stays as it is.
 pub fn push(out: &mut [u64], n: usize, w: u64) -> usize
     ensures value { result ≡ after_push (length out.old) n }
@@ -70,25 +61,21 @@ pub fn push_list(out: &mut [u64], from: usize, list: &[u32], n: usize) -> usize
     ensures { (from ≤ result) × (result ≤ from + n) }
 {
     let mut at = from;
-    let mut i: usize = 0;
-    while i < n {
-        let x = wide(lists::at32(list, i));
-        at = push(&mut *out, at, x);
-        i += 1;
+    // By index: a word past the end of the list counts as 0.
+    for i in 0..n {
+        at = push(&mut *out, at, u64::from(lists::at(list, i)));
     }
     at
 }
 
-// The same of floats.
+// The same of floats. Not one function with the above: a float goes in as its bits.
 pub fn push_floats(out: &mut [u64], from: usize, list: &[f64], n: usize) -> usize
     ensures { (from ≤ result) × (result ≤ from + n) }
 {
     let mut at = from;
-    let mut i: usize = 0;
-    while i < n {
-        let x = pattern(lists::at64(list, i));
-        at = push(&mut *out, at, x);
-        i += 1;
+    // By index: past the end of the list a float counts as NaN.
+    for i in 0..n {
+        at = push(&mut *out, at, pattern(lists::at(list, i)));
     }
     at
 }
@@ -99,19 +86,15 @@ pub fn push_floats(out: &mut [u64], from: usize, list: &[f64], n: usize) -> usiz
 pub fn same_tail(words: &[u64], n: usize, results: &[u64], r: usize) -> bool
     ensures { result ≡ same_tail words.now n results.now r }
 {
-    if n < r {
-        return false;
-    }
-    if r == 0 {
+    if n < r || r == 0 {
         return false;
     }
     let first = n - r;
-    let mut i: usize = 0;
-    while i < r {
+    // By index: n and r may be more than the lists have, whose words past the end are 0.
+    for i in 0..r {
         if word(words, first + i) != word(results, i) {
             return false;
         }
-        i += 1;
     }
     true
 }
@@ -120,5 +103,5 @@ pub fn same_tail(words: &[u64], n: usize, results: &[u64], r: usize) -> bool
 pub fn one_if_not(ok: bool) -> u64
     ensures { result ≡ bit (not ok) }
 {
-    if ok { 0 } else { 1 }
+    u64::from(!ok)
 }

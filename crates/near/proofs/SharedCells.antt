@@ -1,4 +1,5 @@
 -- THE COUNT OF ENTRIES: the cells of the box's range hold as many entries as the polygons share cells with it, all told. Assumes nothing.
+use Rattle.std.proofs.Common.{None, Option, Some}
 use mathlib.Core.Path.{◌≡◌, sym, ap, ◌∙◌}
 use mathlib.Core.Logic.{⊎_elim}
 use mathlib.Core.Bool.{Bool, true, false, ◌&&◌, and-false, and-true}
@@ -13,8 +14,6 @@ use Rattle.lists.proofs.Cases.{lt_or_le}
 use Rattle.lists.proofs.Sums.{sum_to_ext, sum_to_zero, sum_over_ext, sum_swap}
 use Rattle.lists.proofs.Counting.{all_counting, length_filter}
 use Rattle.grid.specs.declared.CellRange.{CellRange}
-use Rattle.grid.specs.declared.Range.{Range}
-use Rattle.grid.specs.declared.Range.TheVariants.{Cells, Nothing}
 use Rattle.tables.specs.Tables.{covers, area_of, cell_items, held_in}
 use Rattle.near.specs.Shared.{meet}
 use Rattle.near.specs.Keys.{cells_from}
@@ -44,26 +43,26 @@ sum_times k f (suc h) = omega (arith, sum_times k f h, mul-add k (sum_to f h) (f
 -- ---- one polygon's cells among those of the box's range
 module _ (cols : ℕ) (q : CellRange) (below : q.c1 < cols) where
   row_cells : (p : CellRange) (row : ℕ)
-      → sum_to (λ i. bit (covers cols (Cells p) (row * cols + q.c0 + i))) (suc q.c1 - q.c0)
+      → sum_to (λ i. bit (covers cols (Some p) (row * cols + q.c0 + i))) (suc q.c1 - q.c0)
       ≡ (min (suc p.c1) (q.c0 + (suc q.c1 - q.c0)) - max p.c0 q.c0) * bit (leb p.r0 row && leb row p.r1)
   row_cells p row =
-      sum_to_ext (λ i. bit (covers cols (Cells p) (row * cols + q.c0 + i))) (λ i. bit ((leb p.c0 (q.c0 + i) && leb (q.c0 + i) p.c1) && (leb p.r0 row && leb row p.r1))) (suc q.c1 - q.c0)
+      sum_to_ext (λ i. bit (covers cols (Some p) (row * cols + q.c0 + i))) (λ i. bit ((leb p.c0 (q.c0 + i) && leb (q.c0 + i) p.c1) && (leb p.r0 row && leb row p.r1))) (suc q.c1 - q.c0)
       (λ i l. ap bit (at i (omega arith)))
       ∙ sum_and (λ i. leb p.c0 (q.c0 + i) && leb (q.c0 + i) p.c1) (leb p.r0 row && leb row p.r1) (suc q.c1 - q.c0)
       ∙ ap (λ (k : ℕ). k * bit (leb p.r0 row && leb row p.r1)) (sum_between p.c0 p.c1 q.c0 (suc q.c1 - q.c0))
     where
-      at : (i : ℕ) → q.c0 + i < cols → covers cols (Cells p) (row * cols + q.c0 + i) ≡ ((leb p.c0 (q.c0 + i) && leb (q.c0 + i) p.c1) && (leb p.r0 row && leb row p.r1))
+      at : (i : ℕ) → q.c0 + i < cols → covers cols (Some p) (row * cols + q.c0 + i) ≡ ((leb p.c0 (q.c0 + i) && leb (q.c0 + i) p.c1) && (leb p.r0 row && leb row p.r1))
       at i h =
           let m : (row * cols + q.c0 + i) % cols ≡ q.c0 + i = rw add_assoc (mul-add-mod_self_right row cols (q.c0 + i) ∙ mod-eq_of_lt h) in
           let d : (row * cols + q.c0 + i) / cols ≡ row = rw add_assoc (mul-add-div_right (omega arith) row (q.c0 + i) ∙ ap (◌+◌ row) (div-eq_of_lt h) ∙ add-zero row) in
           rw (m, d)
 
-  cells : (s : Range) → sum_to (λ j. sum_to (λ i. bit (covers cols s ((q.r0 + j) * cols + q.c0 + i))) (suc q.c1 - q.c0)) (suc q.r1 - q.r0) ≡ area_of (meet s q)
-  cells Nothing =
+  cells : (s : (Option CellRange)) → sum_to (λ j. sum_to (λ i. bit (covers cols s ((q.r0 + j) * cols + q.c0 + i))) (suc q.c1 - q.c0)) (suc q.r1 - q.r0) ≡ area_of (meet s q)
+  cells None =
       sum_to_ext (λ j. sum_to (λ i. 0) (suc q.c1 - q.c0)) (λ _. 0) (suc q.r1 - q.r0) (λ j l. sum_to_zero (suc q.c1 - q.c0)) ∙ sum_to_zero (suc q.r1 - q.r0)
-  cells (Cells p) =
+  cells (Some p) =
       let w = min (suc p.c1) (q.c0 + (suc q.c1 - q.c0)) - max p.c0 q.c0 in
-      sum_to_ext (λ j. sum_to (λ i. bit (covers cols (Cells p) ((q.r0 + j) * cols + q.c0 + i))) (suc q.c1 - q.c0)) (λ j. w * bit (leb p.r0 (q.r0 + j) && leb (q.r0 + j) p.r1)) (suc q.r1 - q.r0)
+      sum_to_ext (λ j. sum_to (λ i. bit (covers cols (Some p) ((q.r0 + j) * cols + q.c0 + i))) (suc q.c1 - q.c0)) (λ j. w * bit (leb p.r0 (q.r0 + j) && leb (q.r0 + j) p.r1)) (suc q.r1 - q.r0)
       (λ j l. row_cells p (q.r0 + j))
       ∙ sum_times w (λ j. bit (leb p.r0 (q.r0 + j) && leb (q.r0 + j) p.r1)) (suc q.r1 - q.r0)
       ∙ ap (◌*◌ w) (sum_between p.r0 p.r1 q.r0 (suc q.r1 - q.r0))
@@ -73,7 +72,7 @@ module _ (cols : ℕ) (q : CellRange) (below : q.c1 < cols) where
       side a b c d = omega arith
 
   -- THE COUNT
-  pub held_cells : (span : ℕ → Range) (n : ℕ) → held_in span n cols (Cells q) ≡ cells_from span cols q 0 n
+  pub held_cells : (span : ℕ → (Option CellRange)) (n : ℕ) → held_in span n cols (Some q) ≡ cells_from span cols q 0 n
   held_cells span n =
       let w = suc q.c1 - q.c0 in
       let h = suc q.r1 - q.r0 in

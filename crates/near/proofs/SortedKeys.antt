@@ -1,4 +1,5 @@
 -- THE KEYS IN ORDER ARE THE LIST: one number holds a first shared cell and an id, so that the numbers' order is the order by cell and then id. Assumes nothing.
+use Rattle.std.proofs.Common.{None, Option, Some}
 use mathlib.Core.Path.{◌≡◌, refl, sym, ap, ◌∙◌}
 use mathlib.Core.Bool.{true, and-eq-true_iff, false≢true}
 use mathlib.Core.List.{List, [], ◌∷◌, ◌++◌, map, map-append}
@@ -13,8 +14,6 @@ use Rattle.lists.proofs.Members.{in_all, in_map, from_map}
 use Rattle.lists.proofs.Counting.{counting_in, nodup_counting, nodup_filter, filter_in, in_filter}
 use Rattle.lists.proofs.Joined.{joined_ext, joined_in, in_joined}
 use Rattle.grid.specs.declared.CellRange.{CellRange}
-use Rattle.grid.specs.declared.Range.{Range}
-use Rattle.grid.specs.declared.Range.TheVariants.{Cells, Nothing}
 use Rattle.sorts.specs.Sort.{sort}
 use Rattle.sorts.proofs.Climbing.{Climbs}
 use Rattle.near.specs.Shared.{shared, meet, has_cell, is_first, first_here, near_of}
@@ -35,7 +34,7 @@ map_back : (f : ℕ → ℕ) (g : ℕ → ℕ) (l : List ℕ) → All (λ x. f (
 map_back f g [] h = refl
 map_back f g (x ∷ l) h = rw (h.0, map_back f g l h.1)
 
-module _ (span : ℕ → Range) (cols n : ℕ) (q : CellRange) (below : q.c1 < cols) (few : n ≤ 4096) where
+module _ (span : ℕ → (Option CellRange)) (cols n : ℕ) (q : CellRange) (below : q.c1 < cols) (few : n ≤ 4096) where
   -- the keys of the ids whose first shared cell is this one, and of a row of cells
   abbrev here : ℕ → ℕ → List ℕ
   here row col = map (key_at (row * cols + col)) (first_here span n q row col)
@@ -55,7 +54,7 @@ module _ (span : ℕ → Range) (cols n : ℕ) (q : CellRange) (below : q.c1 < c
       map_back (λ key. key % id_span) (key_at (row * cols + col)) (first_here span n q row col)
       (in_all _ (first_here span n q row col) (λ x i. id_of (row * cols + col) x (omega (arith, id_below row col x i))))
 
-  all_ids : ids_of all_keys ≡ near_of span n (Cells q)
+  all_ids : ids_of all_keys ≡ near_of span n (Some q)
   unfolding near_of
   all_ids =
       map_joined (λ key. key % id_span) row_keys (suc q.r1 - q.r0)
@@ -84,23 +83,23 @@ module _ (span : ℕ → Range) (cols n : ℕ) (q : CellRange) (below : q.c1 < c
   all_climb = (climb_joined row_keys (λ j. ((q.r0 + j) * cols + q.c0) * 4096) (suc q.r1 - q.r0) (λ j l. row_between j) (λ j l. omega (arith, next j))).climbs
 
   -- ---- their members are the keys
-  corner : (s : Range) (row col : ℕ) → is_first (meet s q) row col ≡ true → (has_cell (meet s q) ≡ true) × (first_cell cols (meet s q) ≡ row * cols + col)
-  corner Nothing row col h = absurd (false≢true h)
-  corner (Cells p) row col h =
+  corner : (s : (Option CellRange)) (row col : ℕ) → is_first (meet s q) row col ≡ true → (has_cell (meet s q) ≡ true) × (first_cell cols (meet s q) ≡ row * cols + col)
+  corner None row col h = absurd (false≢true h)
+  corner (Some p) row col h =
       let f = first_to (shared p q) row col h in
       (rw (le-leb _ _ f.wide, le-leb _ _ f.high), rw (f.row_is, f.col_is))
 
   -- the row and column of a first shared cell, counted from the box's first
-  pub record Place (s : Range) : Type 0 where
+  pub record Place (s : (Option CellRange)) : Type 0 where
     pub row : ℕ
     pub col : ℕ
     pub row_below : row < suc q.r1 - q.r0
     pub col_below : col < suc q.c1 - q.c0
     pub first : is_first (meet s q) (q.r0 + row) (q.c0 + col) ≡ true
 
-  pub place : (s : Range) → has_cell (meet s q) ≡ true → Place s
-  place Nothing h = absurd (false≢true h)
-  place (Cells p) h =
+  pub place : (s : (Option CellRange)) → has_cell (meet s q) ≡ true → Place s
+  place None h = absurd (false≢true h)
+  place (Some p) h =
       let a = (and-eq-true_iff (leb (max p.c0 q.c0) (min p.c1 q.c1)) (leb (max p.r0 q.r0) (min p.r1 q.r1))).0 h in
       let w : max p.c0 q.c0 ≤ min p.c1 q.c1 = leb-true _ _ a.0 in
       let v : max p.r0 q.r0 ≤ min p.r1 q.r1 = leb-true _ _ a.1 in
@@ -146,5 +145,5 @@ module _ (span : ℕ → Range) (cols n : ℕ) (q : CellRange) (below : q.c1 < c
       (λ x y i k e. sym (key_id x i) ∙ ap (λ (z : ℕ). z % 4096) e ∙ key_id y k)
 
   -- THE LIST by keys
-  pub sorted_near : ids_of (sort ltb (keys_from span cols q 0 n)) ≡ near_of span n (Cells q)
+  pub sorted_near : ids_of (sort ltb (keys_from span cols q 0 n)) ≡ near_of span n (Some q)
   sorted_near = ap ids_of (sorted_is (keys_from span cols q 0 n) all_keys keys_once all_climb to_all from_all) ∙ all_ids

@@ -1,5 +1,6 @@
 -- THE GRID'S LIST IS THE LIST BY FIRST SHARED CELL AND THEN ID, for tables that `build` makes and fresh stamps, and its count of entries is that of the cells of
 -- the box's range. Assumes nothing.
+use Rattle.std.proofs.Common.{None, Option, Some}
 use mathlib.Core.Path.{◌≡◌, refl, sym, ◌∙◌}
 use mathlib.Core.Logic.{inl, inr, ⊎_elim}
 use mathlib.Core.Bool.{true}
@@ -16,8 +17,6 @@ use Rattle.lists.proofs.Zeros.{padded_nil}
 use Rattle.geom.specs.declared.Aabb.{Aabb}
 use Rattle.grid.specs.declared.CellRange.{CellRange}
 use Rattle.grid.specs.declared.Grid.{Grid}
-use Rattle.grid.specs.declared.Range.{Range}
-use Rattle.grid.specs.declared.Range.TheVariants.{Cells, Nothing}
 use Rattle.grid.specs.Range.{range_of, InGrid}
 use Rattle.grid.specs.Stamps.{epoch_after, marks_begun, firsts, Fresh}
 use Rattle.grid.specs.Entries.{cell_of, cells_from, rows_from, entries_in, Inside}
@@ -35,11 +34,11 @@ use Rattle.near.proofs.Meetings.{Meets, meets_cell, meets_then, meets_all}
 use Rattle.near.proofs.FirstCells.{Began, new_first, first_new, next_to, next_from, row_to, row_from, none_past}
 
 -- the entries of the cells of a range, row by row, by the polygons' ranges
-abbrev held_by : (ℕ → Range) → ℕ → ℕ → CellRange → List ℕ
+abbrev held_by : (ℕ → (Option CellRange)) → ℕ → ℕ → CellRange → List ℕ
 held_by span n cols q = joined (λ j. joined (λ i. cell_items span n cols ((q.r0 + j) * cols + q.c0 + i)) (suc q.c1 - q.c0)) (suc q.r1 - q.r0)
 
 -- ---- those met first
-module _ (span : ℕ → Range) (n cols : ℕ) (q : CellRange) (h : q.c1 < cols) where
+module _ (span : ℕ → (Option CellRange)) (n cols : ℕ) (q : CellRange) (h : q.c1 < cols) where
   -- what was met before the row and column
   abbrev Before : ℕ → ℕ → ℕ → Type 0
   Before row col x = Began (meet (span x) q) row col
@@ -75,7 +74,7 @@ module _ (span : ℕ → Range) (n cols : ℕ) (q : CellRange) (h : q.c1 < cols)
       (λ i l. cell e row i (record { below_row = lo; above_row = hi; below_col = omega arith; above_col = omega arith }))))
 
   -- THE FIRST MEETINGS over the range
-  pub first_meetings : (e : ℕ) (m : List ℕ) → n ≤ length m → ((x : ℕ) → get_or m x 0 ≡ e → ⊥) → firsts e m (held_by span n cols q) ≡ near_of span n (Cells q)
+  pub first_meetings : (e : ℕ) (m : List ℕ) → n ≤ length m → ((x : ℕ) → get_or m x 0 ≡ e → ⊥) → firsts e m (held_by span n cols q) ≡ near_of span n (Some q)
   unfolding near_of
   first_meetings e m long bare =
       (meets_all e n (λ j. joined (λ i. cell_items span n cols ((q.r0 + j) * cols + q.c0 + i)) (suc q.c1 - q.c0)) (λ j. joined (λ i. first_here span n q (q.r0 + j) (q.c0 + i)) (suc q.c1 - q.c0))
@@ -83,7 +82,7 @@ module _ (span : ℕ → Range) (n cols : ℕ) (q : CellRange) (h : q.c1 < cols)
       (record { long = long; to = λ x l k. absurd (bare x k); from = λ x l k. absurd (none_past q (span x) (rw (add-zero q.r0) at k)) })).0
 
   -- how many entries there are
-  length_held : length (held_by span n cols q) ≡ held_in span n cols (Cells q)
+  length_held : length (held_by span n cols q) ≡ held_in span n cols (Some q)
   length_held =
       length_joined (λ j. joined (λ i. cell_items span n cols ((q.r0 + j) * cols + q.c0 + i)) (suc q.c1 - q.c0)) (suc q.r1 - q.r0)
       ∙ sum_to_ext (λ j. length (joined (λ i. cell_items span n cols ((q.r0 + j) * cols + q.c0 + i)) (suc q.c1 - q.c0)))
@@ -91,7 +90,7 @@ module _ (span : ℕ → Range) (n cols : ℕ) (q : CellRange) (h : q.c1 < cols)
       (λ j l. length_joined (λ i. cell_items span n cols ((q.r0 + j) * cols + q.c0 + i)) (suc q.c1 - q.c0))
 
 -- ---- the query over built tables
-module _ (g : Grid) (span : ℕ → Range) (n a c : ℕ) (l : Limits g) (fit : g.cols * g.rows < a) (room : length (items_of span n g.cols (g.cols * g.rows)) ≤ c) where
+module _ (g : Grid) (span : ℕ → (Option CellRange)) (n a c : ℕ) (l : Limits g) (fit : g.cols * g.rows < a) (room : length (items_of span n g.cols (g.cols * g.rows)) ≤ c) where
   abbrev st : List ℕ
   st = built.starts span n g.cols g.rows a c fit room
 
@@ -112,15 +111,15 @@ module _ (g : Grid) (span : ℕ → Range) (n a c : ℕ) (l : Limits g) (fit : g
     pub answers : o.answer ≡ (outcome_in span n g.cols (range_of g b) k).answer
     pub ids : o.ids ≡ (outcome_in span n g.cols (range_of g b) k).ids
 
-  same_by : (b : Aabb) (q : Range) (m : List ℕ) (e k : ℕ) → range_of g b ≡ q → n ≤ length m → Fresh e m → Same b k (query.outcome g b st it m e k)
+  same_by : (b : Aabb) (q : (Option CellRange)) (m : List ℕ) (e k : ℕ) → range_of g b ≡ q → n ≤ length m → Fresh e m → Same b k (query.outcome g b st it m e k)
   unfolding query.outcome query.outcome_by near_of
-  same_by b Nothing m e k is many f = record { answers = rw (is, le-ltb k 0 (omega arith)); ids = rw (is, le-ltb k 0 (omega arith)) (sym (padded_nil {A = ℕ} 0 k)) }
-  same_by b (Cells q) m e k is many f =
+  same_by b None m e k is many f = record { answers = rw (is, le-ltb k 0 (omega arith)); ids = rw (is, le-ltb k 0 (omega arith)) (sym (padded_nil {A = ℕ} 0 k)) }
+  same_by b (Some q) m e k is many f =
       let o = range_of_lem g b q l is in
       let x : entries_in g q st it ≡ held_by span n g.cols q = entries_are q o in
-      let y : firsts (epoch_after e) (marks_begun e m) (held_by span n g.cols q) ≡ near_of span n (Cells q) =
+      let y : firsts (epoch_after e) (marks_begun e m) (held_by span n g.cols q) ≡ near_of span n (Some q) =
       first_meetings span n g.cols q o.c1_in (epoch_after e) (marks_begun e m) (omega (arith, begun_length e m _ refl)) (λ i h. omega (arith, begun_bare e m f i)) in
-      let z : length (held_by span n g.cols q) ≡ held_in span n g.cols (Cells q) = length_held span n g.cols q o.c1_in in
+      let z : length (held_by span n g.cols q) ≡ held_in span n g.cols (Some q) = length_held span n g.cols q o.c1_in in
       record { answers = rw (is, x, y, z); ids = rw (is, x, y) }
 
   pub same : (b : Aabb) (m : List ℕ) (e k : ℕ) → n ≤ length m → Fresh e m → Same b k (query.outcome g b st it m e k)

@@ -6,7 +6,7 @@
 // counts as the grid does is said in crate `demand` (`both_engines` in proofs/DemandThree.antt).
 #![tactic(auto)]
 
-ghost use Rattle.std.specs.Prelude.{◌≡◌, ◌*◌, ◌<◌, ◌≤◌, min, max, length, take};
+ghost use Rattle.std.specs.Prelude.{◌≡◌, ◌*◌, ◌<◌, ◌≤◌, length, take};
 ghost use Rattle.tables.specs.Tables.{Limits, area_of};
 ghost use Rattle.build.specs.Outcome.{span_at};
 ghost use Rattle.lists.specs.Lists.{bit};
@@ -15,7 +15,8 @@ ghost use Rattle.near.specs.Outcome.{Is, outcome_in, query_of, plain_of};
 ghost use Rattle.near.specs.Keys.{id_span, first_cell, key_at, ids_of, Askable, Small, SmallIn, GathersOne, Gathers};
 
 use geom::Aabb;
-use grid::{CellRange, Grid, Listing, Range};
+use grid::{CellRange, Grid, Listing};
+use refusal::Refusal;
 use site::Site;
 
 // Ids are below this.
@@ -26,29 +27,17 @@ const ROOM: usize = 6144;
 
 // ---- the cells shared
 
-fn smaller(a: u32, b: u32) -> u32
-    ensures { result ≡ min a b }
-{
-    if a < b { a } else { b }
-}
-
-fn larger(a: u32, b: u32) -> u32
-    ensures { result ≡ max a b }
-{
-    if a < b { b } else { a }
-}
-
 // The cells that the range s and the range q share.
-fn cells_shared(s: Range, q: CellRange) -> Range
+fn cells_shared(s: Option<CellRange>, q: CellRange) -> Option<CellRange>
     ensures { result ≡ meet s q }
 {
     match s {
-        Range::Nothing => Range::Nothing,
-        Range::Cells(p) => Range::Cells(CellRange {
-            c0: larger(p.c0, q.c0),
-            r0: larger(p.r0, q.r0),
-            c1: smaller(p.c1, q.c1),
-            r1: smaller(p.r1, q.r1),
+        None => None,
+        Some(p) => Some(CellRange {
+            c0: p.c0.max(q.c0),
+            r0: p.r0.max(q.r0),
+            c1: p.c1.min(q.c1),
+            r1: p.r1.min(q.r1),
         }),
     }
 }
@@ -64,23 +53,23 @@ struct Gathered {
 
 // The key of the first cell of r and an id.
 fn key(cols: u32, r: CellRange, id: u32) -> u32
-    requires { (first_cell cols (Range.Cells r) < 1048576) × (id < id_span) }
-    ensures { result ≡ key_at (first_cell cols (Range.Cells r)) id }
+    requires { (first_cell cols (Some r) < 1048576) × (id < id_span) }
+    ensures { result ≡ key_at (first_cell cols (Some r)) id }
 {
     (r.r0 * cols + r.c0) * IDS + id
 }
 
 // How many cells r has.
 fn area(r: CellRange) -> usize
-    requires { area_of (Range.Cells r) ≤ 1048576 }
-    ensures { result ≡ area_of (Range.Cells r) }
+    requires { area_of (Some r) ≤ 1048576 }
+    ensures { result ≡ area_of (Some r) }
 {
     grid::count(r.c0, r.c1) * grid::count(r.r0, r.r1)
 }
 
 // 1 if r has a cell, and 0 if not: a value and not a branch, since which polygons share a cell cannot be foreseen.
 fn has_cell(r: CellRange) -> usize
-    ensures { result ≡ bit (has_cell (Range.Cells r)) }
+    ensures { result ≡ bit (has_cell (Some r)) }
 {
     ((r.c0 <= r.c1) & (r.r0 <= r.r1)) as usize
 }
@@ -89,9 +78,9 @@ fn has_cell(r: CellRange) -> usize
 fn gather_cells(cols: u32, keys: &mut [u32], t: Gathered, id: u32, r: CellRange) -> Gathered
     requires small { Small cols r × (id < id_span) }
     requires found_le_id { (t.found ≤ id) × (t.cells ≤ id * 1048576) }
-    ensures { GathersOne cols (Range.Cells r) id t keys.old result keys.new }
+    ensures { GathersOne cols (Some r) id t keys.old result keys.new }
 {
-    lists::put32(keys, t.found, key(cols, r, id));
+    lists::put(keys, t.found, key(cols, r, id));
     Gathered {
         found: t.found + has_cell(r),
         cells: t.cells + area(r),
@@ -99,14 +88,14 @@ fn gather_cells(cols: u32, keys: &mut [u32], t: Gathered, id: u32, r: CellRange)
 }
 
 // The same of a range that may be nothing.
-fn gather_one(cols: u32, keys: &mut [u32], t: Gathered, id: u32, s: Range) -> Gathered
+fn gather_one(cols: u32, keys: &mut [u32], t: Gathered, id: u32, s: Option<CellRange>) -> Gathered
     requires small_in { SmallIn cols s × (id < id_span) }
     requires found_le_id { (t.found ≤ id) × (t.cells ≤ id * 1048576) }
     ensures { GathersOne cols s id t keys.old result keys.new }
 {
     match s {
-        Range::Nothing => t,
-        Range::Cells(r) => gather_cells(cols, keys, t, id, r),
+        None => t,
+        Some(r) => gather_cells(cols, keys, t, id, r),
     }
 }
 
@@ -125,11 +114,9 @@ fn gather(
 {
     let cols = g.cols;
     let mut t = Gathered { found: 0, cells: 0 };
-    let mut id: u32 = 0;
-    while id < n {
+    for id in 0..n {
         let s = cells_shared(g.cell_range(site::box_of(points, polygons, id)), q);
         t = gather_one(cols, &mut *keys, t, id, s);
-        id += 1;
     }
     t
 }
@@ -141,10 +128,8 @@ fn write_ids(keys: &[u32], n: usize, ids: &mut [u32])
     requires { (n ≤ length keys.now) × (n ≤ length ids.old) }
     ensures { take n ids.new ≡ ids_of (take n keys.now) }
 {
-    let mut i: usize = 0;
-    while i < n {
-        ids[i] = keys[i] % IDS;
-        i += 1;
+    for (i, key) in keys[..n].iter().enumerate() {
+        ids[i] = key % IDS;
     }
 }
 
@@ -156,40 +141,47 @@ fn range_query(
     n: u32,
     q: CellRange,
     ids: &mut [u32],
-) -> Listing
+) -> Result<Listing, Refusal>
     requires { Askable g q n }
-    ensures { Is (outcome_in (span_at g points.now polygons.now) n g.cols (Range.Cells q) (length ids.old)) result ids.new }
+    ensures { Is (outcome_in (span_at g points.now polygons.now) n g.cols (Some q) (length ids.old)) result ids.new }
 {
     let mut keys = [0; ROOM];
     let t = gather(g, points, polygons, n, q, &mut keys);
     let found = t.found;
     if ids.len() < found {
-        lists::clear32(ids);
-        return Listing::Refused(8);
+        lists::clear(ids);
+        return Err(Refusal::NoListRoom);
     }
     sorts::sort_numbers(&mut keys, found, 0, ROOM);
     write_ids(&keys, found, &mut *ids);
-    lists::clear_from32(ids, found);
-    Listing::Listed {
+    lists::clear_from(ids, found);
+    Ok(Listing {
         written: found,
         read: t.cells,
-    }
+    })
 }
 
 // The query over a box of n polygons.
-fn box_query(g: Grid, points: &[f64], polygons: &[u32], n: u32, b: Aabb, ids: &mut [u32]) -> Listing
+fn box_query(
+    g: Grid,
+    points: &[f64],
+    polygons: &[u32],
+    n: u32,
+    b: Aabb,
+    ids: &mut [u32],
+) -> Result<Listing, Refusal>
     requires { Limits g × (n ≤ id_span) }
     ensures { Is (query_of g points.now polygons.now n b (length ids.old)) result ids.new }
 {
     match g.cell_range(b) {
-        Range::Nothing => {
-            lists::clear32(&mut *ids);
-            Listing::Listed {
+        None => {
+            lists::clear(&mut *ids);
+            Ok(Listing {
                 written: 0,
                 read: 0,
-            }
+            })
         }
-        Range::Cells(q) => range_query(g, points, polygons, n, q, ids),
+        Some(q) => range_query(g, points, polygons, n, q, ids),
     }
 }
 
@@ -202,14 +194,14 @@ pub fn polygons_near_plain(
     polygons: &[u32],
     b: Aabb,
     ids: &mut [u32],
-) -> Listing
+) -> Result<Listing, Refusal>
     ensures { Is (plain_of site points.now polygons.now b ids.old) result ids.new }
 {
     if !site::is_sound_plain(site, points, polygons) {
-        return Listing::Refused(6);
+        return Err(Refusal::Unsound);
     }
     if !site::box_in_domain(b) {
-        return Listing::Refused(1);
+        return Err(Refusal::OutsideDomain);
     }
     let g = site.grid;
     box_query(g, points, polygons, site.polygons, site::load_box(b), ids)

@@ -9,8 +9,8 @@ use lib.Ieee.Back.{whole_unique}
 use Rattle.num.specs.Num.{abs_of, ceil_of, floor_of, down_to}
 use Rattle.num.specs.Order.{is_minus_zero, before}
 use Rattle.num.specs.Order.{order_of}
-use Rattle.num.specs.declared.Order.{Order}
-use Rattle.num.specs.declared.Order.TheVariants.{Less, Equal, Greater}
+use Rattle.std.specs.declared.cmp.Ordering.{Ordering}
+use Rattle.std.specs.declared.cmp.Ordering.TheVariants.{Less, Equal, Greater}
 use Rattle.num.proofs.Whole.{yes, nay, neg_round}
 use Rattle.num.proofs.FloorLaws.{nought, not_negative, zero_of}
 
@@ -136,10 +136,10 @@ ceil_is (fin true m e) = neg_round binary64 false (down_to false (m * up e) (dow
 ceil_is (fin false m e) = neg_round binary64 true (down_to true (m * up e) (down e)) 1
 
 -- ---- total_cmp
-unfoldable pub pick : Bool → Bool → Bool → Bool → Bool → Bool → Bool → Order
+unfoldable pub pick : Bool → Bool → Bool → Bool → Bool → Bool → Bool → Ordering
 pick l l' q zx zy nx ny = cond l Less (cond l' Greater (cond q (cond zx (cond zy Equal Less) (cond zy Greater Equal)) (cond nx (cond ny Equal Greater) Less)))
 
-abbrev spec : Bool → Bool → Bool → Bool → Bool → Bool → Bool → Bool → Order
+abbrev spec : Bool → Bool → Bool → Bool → Bool → Bool → Bool → Bool → Ordering
 spec l l' q q' zx zy nx ny = cond (l || (q && (zx && not zy)) || (not nx && ny)) Less (cond (l' || (q' && (zy && not zx)) || (not ny && nx)) Greater Equal)
 
 finite_pick : (l l' q q' zx zy : Bool) → q ≡ q' → (T l' → T (not q)) → (T (not l) → T (not l') → T q) → pick l l' q zx zy false false ≡ spec l l' q q' zx zy false false

@@ -1,7 +1,7 @@
 -- Rust's `%` on the bit patterns of floats, in whole numbers alone: the C library's remainder is not used, so a program needs nothing of that library.
 -- A float is counted in units of the smallest one. Then it is r * 2 ^ k, with its bit pattern k * 2 ^ 52 + r where it is not negative. Assumes nothing.
-use Rattle.std.proofs.Common.{◌≡◌, ℕ, zero, suc, ◌+◌, ◌-◌, ◌*◌, ◌/◌, ◌%◌, ◌^◌, ◌<◌, ◌≤◌, Bool, true, false, cond, T, eqb, ◌⊎◌, ℤ, sym, refl, ap, ◌∙◌, subst, inl, inr, true≢false, le_trans, le_of_eq, lt_of_lt_of_le, lt_of_le_of_lt, mul-le-mul_right, mod-eq_of_lt, zero-lt-suc, mul_assoc, mul_comm, lt_of_mul-lt-mul_right, mul-lt-mul_of_pos_right, mul-pos, zero-add, zero-mul, mul-one, div-one, eq-zero-or-pos, mul-div_cancel, arith, lit<, pow_pos, pow_mono, pow-add}
-use native.Mathlib.Nat.{pow-succ'}
+use Rattle.std.proofs.Common.{◌≡◌, ℕ, zero, suc, ◌+◌, ◌-◌, ◌*◌, ◌/◌, ◌%◌, ◌^◌, ◌<◌, ◌≤◌, Bool, true, false, cond, T, eqb, ◌⊎◌, ℤ, sym, refl, ap, ◌∙◌, subst, inl, inr, true≢false, le_trans, le_of_eq, lt_of_lt_of_le, lt_of_le_of_lt, mul-le-mul_right, mod-eq_of_lt, zero-lt-suc, mul_assoc, mul_comm, lt_of_mul-lt-mul_right, mul-lt-mul_of_pos_right, mul-pos, zero-add, zero-mul, mul-one, div-one, eq-zero-or-pos, mul-div_cancel, add-one, arith, lit<, pow_pos, pow_mono, pow-add}
+use native.Mathlib.Nat.{pow-succ', pow-suc}
 use Rattle.std.proofs.lemmas.Nat.{mul-mod_first}
 use lib.Ieee.{Float, nan, inf, fin, binary64, up, down, size, round, rem, neg, fits, to_bits, of_bits}
 use lib.Ieee.Bits.{of_bits-to_bits}
@@ -21,8 +21,11 @@ doubled r k h =
     let e : suc (k - 1) ≡ k = omega arith in
     mul_assoc r 2 (2 ^ (k - 1)) ∙ ap (λ (x : ℕ). r * x) (sym (pow-succ' 2 (k - 1)) ∙ ap (λ (x : ℕ). 2 ^ x) e)
 
-pub digit_down : (r k d : ℕ) → 0 < k → 2 * r % d * 2 ^ (k - 1) % d ≡ r * 2 ^ k % d
-digit_down r k d h = mul-mod_first (2 * r) (2 ^ (k - 1)) d ∙ ap (λ (x : ℕ). x % d) (ap (λ (x : ℕ). x * 2 ^ (k - 1)) (mul_comm 2 r) ∙ doubled r k h)
+pub digit_up : (a k d : ℕ) → 2 * (a * 2 ^ k % d) % d ≡ a * 2 ^ (k + 1) % d
+digit_up a k d =
+    ap (λ (x : ℕ). x % d) (mul_comm 2 (a * 2 ^ k % d))
+    ∙ mul-mod_first (a * 2 ^ k) 2 d
+    ∙ ap (λ (x : ℕ). x % d) (mul_assoc a (2 ^ k) 2 ∙ ap (λ (x : ℕ). a * x) (sym (pow-suc 2 k)) ∙ ap (λ (x : ℕ). a * 2 ^ x) (sym (add-one k)))
 
 -- ---- the bit pattern of z * 2 ^ q units
 top_fits : (z q : ℕ) → z < 2 ^ 53 → q ≤ 2045 → z * 2 ^ q < 2 ^ 2098

@@ -3,8 +3,8 @@
 use Rattle.std.specs.Prelude.{◌≡◌, Bool, true, false, cond, not, ◌&&◌, ◌||◌, ◌==◌, Float}
 use Rattle.std.specs.Float.{nan, inf, fin}
 use Rattle.std.specs.Float.Ieee.{lt, eq, is_nan}
-use Rattle.num.specs.declared.Order.{Order}
-use Rattle.num.specs.declared.Order.TheVariants.{Less, Equal, Greater}
+use Rattle.std.specs.declared.cmp.Ordering.{Ordering}
+use Rattle.std.specs.declared.cmp.Ordering.TheVariants.{Less, Equal, Greater}
 
 unfoldable pub is_minus_zero : Float → Bool
 is_minus_zero nan = false
@@ -17,7 +17,7 @@ unfolding lt eq is_nan is_minus_zero
 before x y = lt x y || (eq x y && (is_minus_zero x && not (is_minus_zero y))) || (not (is_nan x) && is_nan y)
 
 -- what `total_cmp` answers
-unfoldable pub order_of : Float → Float → Order
+unfoldable pub order_of : Float → Float → Ordering
 unfolding before
 order_of x y = cond (before x y) Less (cond (before y x) Greater Equal)
 

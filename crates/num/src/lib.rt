@@ -11,6 +11,8 @@ ghost use Rattle.num.specs.Num.{floor_of, ceil_of, abs_of, min_of, max_of, clamp
 ghost use Rattle.num.specs.Order.{is_minus_zero, order_of};
 ghost use Rattle.num.specs.Root.{RootOf, root_at, sqrt_of};
 
+use std::cmp::Ordering;
+
 // `f64::floor`: IEEE 754's roundToIntegralTowardNegative. From 2^52 on a float has no fraction.
 pub fn floor(x: f64) -> f64
     ensures { result ≡ floor_of x }
@@ -111,43 +113,35 @@ fn is_minus_zero(x: f64) -> bool
     false
 }
 
-// What a comparison answers, as `std::cmp::Ordering`.
-#[derive(Clone, Copy)]
-pub enum Order {
-    Less,
-    Equal,
-    Greater,
-}
-
 // `f64::total_cmp`: IEEE 754's totalOrder. Every NaN counts as the same positive one and comes last.
-pub fn total_cmp(x: f64, y: f64) -> Order
+pub fn total_cmp(x: f64, y: f64) -> Ordering
     ensures { result ≡ order_of x y }
 {
     if x < y {
-        return Order::Less;
+        return Ordering::Less;
     }
     if y < x {
-        return Order::Greater;
+        return Ordering::Greater;
     }
     if x == y {
         if is_minus_zero(x) {
             if is_minus_zero(y) {
-                return Order::Equal;
+                return Ordering::Equal;
             }
-            return Order::Less;
+            return Ordering::Less;
         }
         if is_minus_zero(y) {
-            return Order::Greater;
+            return Ordering::Greater;
         }
-        return Order::Equal;
+        return Ordering::Equal;
     }
     if is_nan(x) {
         if is_nan(y) {
-            return Order::Equal;
+            return Ordering::Equal;
         }
-        return Order::Greater;
+        return Ordering::Greater;
     }
-    Order::Less
+    Ordering::Less
 }
 
 // `x as u64` and `x as usize`: cut toward zero, held to the type's ends, 0 for a NaN.
@@ -215,10 +209,8 @@ fn long_remainder(a: u64, n: u64, d: u64) -> u64
     ensures { result ≡ a * 2 ^ n % d }
 {
     let mut r = a % d;
-    let mut left = n;
-    while left > 0 {
+    for _ in 0..n {
         r = 2 * r % d;
-        left -= 1;
     }
     r
 }

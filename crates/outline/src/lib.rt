@@ -9,11 +9,12 @@ ghost use Rattle.outline.specs.Outline.{none, close_of, Chosen, room_of, tail_of
 
 use geom::Vec2;
 
-// The tag of a point that stays: a corner, or a point of the arc.
+// The tag of a point that stays: a corner, or a point of the arc. A number and no `Option`, as tags are words of the lent room.
 pub const CORNER: u32 = 4294967295;
 
 // How far a run has come: its points, the entries of the Rust's `owners`, the casts made by refining, and the tags of the last two points. The flag
-// stands between the tags: at the end it would leave seven bytes free, which are slow to copy from turn to turn.
+// stands between the tags: at the end it would leave seven bytes free, which are slow to copy from turn to turn. No `Option` holds the numbers: they are
+// promised where the room is passed too.
 #[derive(Clone, Copy)]
 pub struct Trace {
     pub points: usize,
@@ -62,9 +63,10 @@ fn add_place(pts: &[f64], n: usize) -> Place
     ensures { Chosen (room_of (length pts.now) n) n (length pts.now) result }
 {
     if 2 * n + 2 <= pts.len() {
-        return Place::Add;
+        Place::Add
+    } else {
+        Place::Full
     }
-    Place::Full
 }
 
 // A point that is not next to the last one: it takes the place of the last one where the two before it lie on its edge.
@@ -72,22 +74,10 @@ fn tail_place(pts: &[f64], s: Trace, tag: u32) -> Place
     requires { 2 * s.points ≤ length pts.now }
     ensures { Chosen (tail_of (length pts.now) s tag) s.points (length pts.now) result }
 {
-    let n = s.points;
-    let last = s.last;
-    let prev = s.prev;
-    if tag == CORNER {
-        return add_place(pts, n);
+    if tag != CORNER && s.points >= 2 && s.last == tag && s.prev == tag {
+        return Place::Same;
     }
-    if n < 2 {
-        return add_place(pts, n);
-    }
-    if last != tag {
-        return add_place(pts, n);
-    }
-    if prev != tag {
-        return add_place(pts, n);
-    }
-    Place::Same
+    add_place(pts, s.points)
 }
 
 fn place_of(pts: &[f64], s: Trace, o: Vec2, p: Vec2, tag: u32) -> Place
@@ -126,14 +116,7 @@ pub fn push(pts: &mut [f64], s: Trace, o: Vec2, p: Vec2, tag: u32) -> Trace
         Place::Corner => {
             pts[2 * n - 2] = p.x;
             pts[2 * n - 1] = p.y;
-            Trace {
-                points: n,
-                last: CORNER,
-                prev: s.prev,
-                owners: s.owners,
-                refinements: s.refinements,
-                over: s.over,
-            }
+            Trace { last: CORNER, ..s }
         }
         Place::Same => {
             pts[2 * n - 2] = p.x;
@@ -147,19 +130,10 @@ pub fn push(pts: &mut [f64], s: Trace, o: Vec2, p: Vec2, tag: u32) -> Trace
                 points: n + 1,
                 last: tag,
                 prev: s.last,
-                owners: s.owners,
-                refinements: s.refinements,
-                over: s.over,
+                ..s
             }
         }
-        Place::Full => Trace {
-            points: n,
-            last: s.last,
-            prev: s.prev,
-            owners: s.owners,
-            refinements: s.refinements,
-            over: true,
-        },
+        Place::Full => Trace { over: true, ..s },
     }
 }
 
@@ -173,27 +147,13 @@ pub fn own(room: u32, owners: &[u32], marks: &mut [u8], s: Trace, edge: u32) -> 
     if s.over {
         return s;
     }
-    if m < lists::wide(room) {
-        lists::put8(
-            marks,
-            lists::wide(site::owner_at(owners, lists::wide(edge))),
-            1,
-        );
-        return Trace {
-            points: s.points,
-            last: s.last,
-            prev: s.prev,
-            owners: m + 1,
-            refinements: s.refinements,
-            over: s.over,
-        };
+    if m < room as usize {
+        lists::put(marks, site::owner_at(owners, edge as usize) as usize, 1);
+        return Trace { owners: m + 1, ..s };
     }
     Trace {
-        points: s.points,
-        last: s.last,
-        prev: s.prev,
         owners: m + 1,
-        refinements: s.refinements,
         over: true,
+        ..s
     }
 }

@@ -1,6 +1,7 @@
 -- EACH LINE'S POLYGON KEEPS ITS ID (`line_kept`): the site of a text has a polygon for each line, and the polygon of an id has as many points as the line with this
 -- number, none where the line is POLYGON EMPTY. `line_seen`: the line of an id listed as visible has points, three at least, so an empty polygon is never
 -- listed (document 02, Q-2). Assumes nothing.
+use Rattle.std.proofs.Common.{Ok}
 use mathlib.Core.Path.{◌≡◌, refl, sym, ◌∙◌}
 use mathlib.Core.List.{List, []}
 use Prim.Native.Nat.{ℕ, ◌≤◌, ◌<◌}
@@ -13,11 +14,9 @@ use Rattle.lists.proofs.Members.{all_in}
 use Rattle.geom.specs.Vec.{vec}
 use Rattle.site.specs.declared.Site.{Site}
 use Rattle.site.specs.Tables.{Tables, len_of}
-use Rattle.build.specs.declared.Made.TheVariants as made
 use Rattle.build.proofs.InPlace.{InPlace, in_place}
 use Rattle.cone.specs.Cone.{full_of}
 use Rattle.stages.specs.declared.Shown.{Shown}
-use Rattle.stages.specs.declared.Visibility.TheVariants as visibility
 use Rattle.visibility.specs.Beside.{tenth}
 use Rattle.visibility.proofs.Ids.{visible_named}
 use Rattle.wkt.specs.Grammar.{Point}
@@ -27,7 +26,7 @@ use Rattle.planner.specs.Rooms.{rooms, site_room, work_room}
 use Rattle.planner.specs.Answer.{outline_of, site_of}
 
 -- of the rings of any text, as `answer_by` has them
-module _ (rs : List (List Point)) (s : Site) (built : (site_of (all_coords rs) (lengths rs)).answer ≡ made.Site s) where
+module _ (rs : List (List Point)) (s : Site) (built : (site_of (all_coords rs) (lengths rs)).answer ≡ Ok s) where
   abbrev left : Tables
   left = (site_of (all_coords rs) (lengths rs)).left
 
@@ -38,7 +37,7 @@ module _ (rs : List (List Point)) (s : Site) (built : (site_of (all_coords rs) (
   pub line_kept : (s.polygons ≡ length rs) × ((id : ℕ) → id < length rs → len_of left.polygons id ≡ length (get_or rs id []))
   line_kept = (placed.many ∙ length_lengths rs, λ id h. placed.len id (le_trans h (le_of_eq (sym (length_lengths rs)))) ∙ lengths_at rs id)
 
-  module _ (x y range : Float) (v : Shown) (seen : (outline_of s left x y range).answer ≡ visibility.Seen v) where
+  module _ (x y range : Float) (v : Shown) (seen : (outline_of s left x y range).answer ≡ Ok v) where
     named : (id : ℕ) → In id (take v.visible (outline_of s left x y range).left.visible) → (id < s.polygons) × (3 ≤ len_of left.polygons id)
     unfolding outline_of
     named id i =

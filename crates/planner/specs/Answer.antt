@@ -2,28 +2,26 @@
 -- 64 and 512 (2), then the library's own order: 2, 3, 1, 4, 5 for building, 6, 1, 7, 8 for the outline. "It prints the outline as a closed `POLYGON` ..;
 -- then each visible polygon, rising by id, as a stored, closed `POLYGON`. A refusal prints `REFUSED n` alone." The decimals are a parameter: six, by
 -- document 02's Q-7, and three for readers limited to them. Definitions only, but for the two numbers of the longest answer.
-use Rattle.std.specs.Prelude.{◌≡◌, refl, List, [], ◌∷◌, ◌++◌, ℕ, ◌+◌, ◌*◌, ◌≤◌, length, take, Float}
+use Rattle.std.specs.Prelude.{◌≡◌, refl, List, [], ◌∷◌, ◌++◌, ℕ, ◌+◌, ◌*◌, ◌≤◌, length, take, Float, Err, Ok, Result}
 use Rattle.num.specs.Ops.{zero_f}
 use Rattle.geom.specs.Vec.{vec}
 use Rattle.site.specs.declared.Site.{Site}
 use Rattle.site.specs.Tables.{Tables, verts_of}
-use Rattle.build.specs.declared.Made.{Made}
-use Rattle.build.specs.declared.Made.TheVariants as made
 use Rattle.build.specs.Outcome as build
 use Rattle.cone.specs.Cone.{full_of}
-use Rattle.stages.specs.declared.Visibility.{Visibility}
-use Rattle.stages.specs.declared.Visibility.TheVariants as visibility
 use Rattle.visibility.specs.Beside.{tenth}
 use Rattle.view.specs.Outcome.{Outcome}
 use Rattle.visibility.specs.Outcome.{outcome}
 use Rattle.wkt.specs.declared.Input.{Input}
-use Rattle.wkt.specs.declared.Input.TheVariants as input
 use Rattle.wkt.specs.Parse.{Parse}
 use Rattle.wkt.specs.Grammar.{Point, Text}
 use Rattle.wkt.specs.Answer.{text_in, input_of, rings_of, all_coords, lengths, held}
 use Rattle.wkt_print.specs.Decimal.{Printed}
 use Rattle.wkt_print.specs.Lines.{points_of, polygon_text, refused_text}
 use Rattle.planner.specs.Rooms.{rooms, site_room, work_room}
+use Rattle.refusal.specs.declared.Refusal.{Refusal}
+use Rattle.refusal.specs.Numbers.{number_of}
+use Rattle.stages.specs.declared.Shown.{Shown}
 
 -- the decimals of `answer`, and those of `answer_three`
 abbrev pub six_places : ℕ
@@ -42,9 +40,9 @@ lines_of places points polygons (k ∷ ids) = polygon_text places (points_of (ve
 unfoldable pub seen_text : ℕ → ℕ → ℕ → List Float → List ℕ → List Float → List ℕ → List ℕ
 seen_text places n m points polygons outline visible = polygon_text places (points_of (take (2 * n) outline)) ++ lines_of places points polygons (take m visible)
 
-abbrev pub shown_by : ℕ → Visibility → List Float → List ℕ → List Float → List ℕ → List ℕ
-shown_by places (visibility.Seen s) points polygons outline visible = seen_text places s.points s.visible points polygons outline visible
-shown_by places (visibility.Refused n) points polygons outline visible = refused_text n
+abbrev pub shown_by : ℕ → Result Shown Refusal → List Float → List ℕ → List Float → List ℕ → List ℕ
+shown_by places (Ok s) points polygons outline visible = seen_text places s.points s.visible points polygons outline visible
+shown_by places (Err r) points polygons outline visible = refused_text (number_of r)
 
 -- ---- from the post, all around: cone full, tolerance 0.1
 unfoldable pub outline_of : Site → Tables → Float → Float → Float → Outcome
@@ -54,9 +52,9 @@ unfoldable pub shown_text : ℕ → Site → Tables → Float → Float → Floa
 shown_text places site t x y range = shown_by places (outline_of site t x y range).answer t.points t.polygons (outline_of site t x y range).left.outline (outline_of site t x y range).left.visible
 
 -- ---- the site, of width and height 0
-abbrev pub built_by : ℕ → Made → Tables → Float → Float → Float → List ℕ
-built_by places (made.Site s) t x y range = shown_text places s t x y range
-built_by places (made.Refused n) t x y range = refused_text n
+abbrev pub built_by : ℕ → Result Site Refusal → Tables → Float → Float → Float → List ℕ
+built_by places (Ok s) t x y range = shown_text places s t x y range
+built_by places (Err r) t x y range = refused_text (number_of r)
 
 unfoldable pub site_of : List Float → List ℕ → build.Outcome
 site_of given lens = build.outcome zero_f zero_f given lens site_room
@@ -65,9 +63,9 @@ unfoldable pub planned_text : ℕ → Float → Float → Float → List Float �
 planned_text places x y range given lens = built_by places (site_of given lens).answer (site_of given lens).left x y range
 
 -- ---- the text
-abbrev pub answer_by : ℕ → Input → List (List Point) → List ℕ
-answer_by places (input.Read x y range polygons points) rs = planned_text places x y range (all_coords rs) (lengths rs)
-answer_by places (input.Refused n) rs = refused_text n
+abbrev pub answer_by : ℕ → Result Input Refusal → List (List Point) → List ℕ
+answer_by places (Ok a) rs = planned_text places a.x a.y a.range (all_coords rs) (lengths rs)
+answer_by places (Err r) rs = refused_text (number_of r)
 
 -- to what was read of a text
 abbrev pub answer_to : ℕ → Parse Text → List ℕ

@@ -5,19 +5,18 @@
 #![tactic(auto)]
 
 ghost use Rattle.std.specs.Prelude.{◌≡◌, ◌*◌, ◌≤◌, ◌<◌, min, length};
-ghost use Rattle.site.specs.Tables.{tables, verts_of};
+ghost use Rattle.site.specs.Tables.{tables_of, verts_of};
 ghost use Rattle.wkt_print.specs.Decimal.{Printed};
 ghost use Rattle.wkt_print.specs.Lines.{points_of, polygon_text};
 ghost use Rattle.planner.specs.Rooms.{rooms};
 ghost use Rattle.planner.specs.Answer.{six_places, three_places, lines_of, seen_text, shown_text, planned_text, answer_of, Told, Answers, Few};
 
-use build::Made;
 use cone::ViewCone;
 use geom::Vec2;
 use room::Rooms;
-use site::Site;
-use stages::Visibility;
-use wkt::Input;
+use scene::Scene;
+use site::SiteTables;
+use stages::Shown;
 
 // The decimals of `answer`, and those of `answer_three`.
 const SIX_PLACES: usize = 6;
@@ -45,10 +44,7 @@ fn rooms() -> Rooms
 fn numbers_of(n: usize, most: usize) -> usize
     ensures { result ≡ min (2 * n) most }
 {
-    if n <= most / 2 {
-        return 2 * n;
-    }
-    most
+    n.saturating_mul(2).min(most)
 }
 
 // ---- printing
@@ -80,19 +76,16 @@ fn print_visible(
     requires { Few places points.now ids.now at }
     ensures { Printed out.old at (lines_of places points.now polygons.now ids.now) out.new result }
 {
-    let mut i = 0;
     let mut j = at;
-    while i < ids.len() {
-        j = print_stored(points, polygons, ids[i], out, j, places);
-        i += 1;
+    for id in ids {
+        j = print_stored(points, polygons, *id, out, j, places);
     }
     j
 }
 
-// The outline of n points, and the m polygons seen.
+// The outline's points, and the polygons seen.
 fn print_seen(
-    n: usize,
-    m: usize,
+    shown: Shown,
     points: &[f64],
     polygons: &[u32],
     outline: &[f64],
@@ -101,10 +94,11 @@ fn print_seen(
     places: usize,
 ) -> usize
     requires { (length points.now ≤ 1024) × (length outline.now ≤ 4096) × (length visible.now ≤ 64) × (places ≤ 6) }
-    ensures { Printed out.old 0 (seen_text places n m points.now polygons.now outline.now visible.now) out.new result }
+    ensures { Printed out.old 0 (seen_text places shown.points shown.visible points.now polygons.now outline.now visible.now) out.new result }
 {
-    let e = numbers_of(n, outline.len());
-    let k = lists::least(m, visible.len());
+    let e = numbers_of(shown.points, outline.len());
+    let k = shown.visible.min(visible.len());
+    // `0..` written out, as `part` has it in the contract: with `..e` the proof does not close. So in `print_answer`.
     let at = wkt_print::print_polygon(out, 0, &outline[0..e], places);
     print_visible(points, polygons, &visible[0..k], out, at, places)
 }
@@ -112,22 +106,9 @@ fn print_seen(
 // ---- the outline
 
 // What is seen from the post (x, y) on a site, all around.
-fn print_view(
-    site: Site,
-    points: &[f64],
-    boxes: &[f64],
-    polygons: &[u32],
-    owners: &[u32],
-    starts: &[u32],
-    items: &[u32],
-    x: f64,
-    y: f64,
-    range: f64,
-    out: &mut [u8],
-    places: usize,
-) -> usize
-    requires { (length points.now ≤ 1024) × (places ≤ 6) }
-    ensures { Told places out.old (shown_text places site (tables points.now boxes.now polygons.now owners.now starts.now items.now) x y range) out.new result }
+fn print_view(scene: Scene, x: f64, y: f64, range: f64, out: &mut [u8], places: usize) -> usize
+    requires { (length (tables_of scene.tables).points ≤ 1024) × (places ≤ 6) }
+    ensures { Told places out.old (shown_text places scene.entry.site (tables_of scene.entry.tables) x y range) out.new result }
 {
     let mut marks = [0u32; 64];
     let mut epoch: u32 = 0;
@@ -137,13 +118,7 @@ fn print_view(
     let mut visible = [0u32; 64];
     let cone = ViewCone::full(Vec2 { x, y }, range);
     match visibility::compute_visibility(
-        site,
-        points,
-        boxes,
-        polygons,
-        owners,
-        starts,
-        items,
+        scene,
         cone,
         0.1,
         0,
@@ -155,10 +130,16 @@ fn print_view(
         &mut outline,
         &mut visible,
     ) {
-        Visibility::Seen(s) => print_seen(
-            s.points, s.visible, points, polygons, &outline, &visible, out, places,
+        Ok(shown) => print_seen(
+            shown,
+            scene.tables.points,
+            scene.tables.polygons,
+            &outline,
+            &visible,
+            out,
+            places,
         ),
-        Visibility::Refused(n) => wkt_print::print_refused(out, 0, n),
+        Err(refusal) => wkt_print::print_refused(out, 0, u32::from(refusal)),
     }
 }
 
@@ -195,10 +176,18 @@ fn print_plan(
         &mut starts,
         &mut items,
     ) {
-        Made::Site(site) => print_view(
-            site, &points, &boxes, &polygons, &owners, &starts, &items, x, y, range, out, places,
-        ),
-        Made::Refused(n) => wkt_print::print_refused(out, 0, n),
+        Ok(site) => {
+            let tables = SiteTables {
+                points: &points,
+                boxes: &boxes,
+                polygons: &polygons,
+                owners: &owners,
+                starts: &starts,
+                items: &items,
+            };
+            print_view(Scene { site, tables }, x, y, range, out, places)
+        }
+        Err(refusal) => wkt_print::print_refused(out, 0, u32::from(refusal)),
     }
 }
 
@@ -212,17 +201,16 @@ fn print_answer(text: &[u8], out: &mut [u8], places: usize) -> usize
     let mut pts = [0.0; 1024];
     let mut lens = [0u32; 64];
     match wkt::read_input(text, &mut pts, &mut lens) {
-        Input::Read {
-            x,
-            y,
-            range,
-            polygons,
-            points,
-        } => {
-            let e = 2 * points;
-            print_plan(x, y, range, &pts[0..e], &lens[0..polygons], out, places)
-        }
-        Input::Refused(n) => wkt_print::print_refused(out, 0, n),
+        Ok(input) => print_plan(
+            input.x,
+            input.y,
+            input.range,
+            &pts[0..2 * input.points],
+            &lens[0..input.polygons],
+            out,
+            places,
+        ),
+        Err(refusal) => wkt_print::print_refused(out, 0, u32::from(refusal)),
     }
 }
 
@@ -232,7 +220,7 @@ fn answer_with(text: &[u8], out: &mut [u8], places: usize) -> usize
     ensures { Answers places text.now out.old result out.new }
 {
     let r = print_answer(text, &mut *out, places);
-    lists::clear_from8(out, r);
+    lists::clear_from(out, r);
     r
 }
 

@@ -1,44 +1,36 @@
 -- The numbers that stand for grids, ranges and answers in the probe. A query's are those of crate `grid`. Definitions only.
-use Rattle.std.specs.Prelude.{◌≡◌, List, [], ◌∷◌, map, ℕ, ◌%◌, Float}
+use Rattle.std.specs.Prelude.{◌≡◌, List, [], ◌∷◌, map, ℕ, ◌%◌, Float, None, Option, Some, Err, Ok, Result}
 use Rattle.geom.specs.Vec.{vec}
 use Rattle.grid.specs.declared.Grid.{Grid}
-use Rattle.grid.specs.declared.Range.{Range}
-use Rattle.grid.specs.declared.Range.TheVariants.{Cells, Nothing}
-use Rattle.tables.specs.declared.Built.{Built}
-use Rattle.tables.specs.declared.Built.TheVariants as built
 use Rattle.tables.specs.Tables as tables
 use Rattle.walk.specs.declared.Course.{Course}
 use Rattle.walk.specs.declared.Place.{Place}
 use Rattle.walk.specs.Steps.{cell_number}
 use Rattle.walk.specs.Tours.{tour, passer_by}
-use Rattle.wkt.specs.declared.Input.{Input}
-use Rattle.wkt.specs.declared.Input.TheVariants as input
+use Rattle.grid.specs.declared.CellRange.{CellRange}
+use Rattle.refusal.specs.declared.Refusal.{Refusal}
+use Rattle.refusal.specs.Numbers.{status_of}
 
 -- the grid of six numbers: its low corner, the size of a cell, one over it, columns and rows
 abbrev pub grid_of : Float → Float → Float → Float → ℕ → ℕ → Grid
 grid_of gx gy cell inv cols rows = record { origin = vec gx gy; cell = cell; inv_cell = inv; cols = cols; rows = rows }
 
 -- ---- a range is 1 and its four numbers, first column, first row, last column, last row; none is 0 and zeros
-abbrev pub found : Range → ℕ
-found (Cells r) = 1
-found Nothing = 0
+abbrev pub found : Option CellRange → ℕ
+found (Some r) = 1
+found None = 0
 
-abbrev pub four_of : Range → List ℕ
-four_of (Cells r) = r.c0 ∷ r.r0 ∷ r.c1 ∷ r.r1 ∷ []
-four_of Nothing = 0 ∷ 0 ∷ 0 ∷ 0 ∷ []
+abbrev pub four_of : Option CellRange → List ℕ
+four_of (Some r) = r.c0 ∷ r.r0 ∷ r.c1 ∷ r.r1 ∷ []
+four_of None = 0 ∷ 0 ∷ 0 ∷ 0 ∷ []
 
--- ---- building answers 0 and the item count, or the refusal's number and 0
-abbrev pub built_status : Built → ℕ
-built_status (built.Items n) = 0
-built_status (built.Refused k) = k
-
-abbrev pub built_count : Built → ℕ
-built_count (built.Items n) = n
-built_count (built.Refused k) = 0
+abbrev pub built_count : Result ℕ Refusal → ℕ
+built_count (Ok n) = n
+built_count (Err k) = 0
 
 -- every part of what building does
 pub record Builds (o : tables.Outcome) (status : ℕ) (starts items : List ℕ) (count : ℕ) : Type 0 where
-  pub status_is : status ≡ built_status o.answer
+  pub status_is : status ≡ status_of o.answer
   pub starts_are : starts ≡ o.starts
   pub items_are : items ≡ o.items
   pub count_is : count ≡ built_count o.answer
@@ -53,8 +45,3 @@ lows cells = map low cells
 -- the cells of the whole walk from the place p on
 unfoldable pub cells_along : Course → Place → List ℕ
 cells_along k p = lows (map (cell_number k) (tour passer_by k p tt).places)
-
--- ---- reading a text answers 0, or the refusal's number
-abbrev pub input_status : Input → ℕ
-input_status (input.Read x y range polygons points) = 0
-input_status (input.Refused n) = n

@@ -8,6 +8,7 @@ mod numbers;
 
 ghost use Rattle.std.specs.Prelude.{◌≡◌, ◌≤◌, length, get_or};
 ghost use Rattle.std.proofs.lemmas.List.Edits.{sets};
+ghost use Rattle.refusal.specs.Numbers.{status_of};
 ghost use Rattle.geom.specs.Vec.{vec};
 ghost use Rattle.grid.specs.Boxes.{box_at};
 ghost use Rattle.grid.specs.Range.{columns_of, range_of};
@@ -21,10 +22,10 @@ ghost use Rattle.walk.specs.Steps.{OnGrid};
 ghost use Rattle.walk.specs.Tours.{ray_cells, passer_by};
 ghost use Rattle.wkt.specs.Answer.{text_in, input_of, Says};
 ghost use Rattle.wkt_print.specs.Decimal.{shown, Printed};
-ghost use Rattle.probe.specs.Numbers.{grid_of, found, four_of, Builds, low, lows, cells_along, input_status};
+ghost use Rattle.probe.specs.Numbers.{grid_of, found, four_of, Builds, low, lows, cells_along};
 
 use geom::Vec2;
-use walk::{Course, Place, Start, Step};
+use walk::{Course, Place};
 
 #[unsafe(no_mangle)]
 pub extern "C" fn bf_inner_columns(extent: f64, cell: f64) -> u64
@@ -78,7 +79,7 @@ pub extern "C" fn bf_inner_build(
         items,
     );
     *count = numbers::built_count(a);
-    numbers::built_status(a)
+    refusal::status(a)
 }
 
 #[unsafe(no_mangle)]
@@ -111,7 +112,7 @@ pub extern "C" fn bf_inner_box_query(
         ids,
     );
     numbers::put_counts(counts, a);
-    numbers::listed_status(a)
+    refusal::status(a)
 }
 
 #[unsafe(no_mangle)]
@@ -131,7 +132,7 @@ pub extern "C" fn bf_inner_item_at(
     ensures { result ≡ get_or (items_at (grid_of gx gy cell inv cols rows) (vec x y) starts.now items.now) i 0 }
 {
     let g = numbers::grid_of(gx, gy, cell, inv, cols, rows);
-    lists::at32(grid::items_at(g, starts, items, Vec2 { x, y }), i)
+    lists::at(grid::items_at(g, starts, items, Vec2 { x, y }), i)
 }
 
 #[unsafe(no_mangle)]
@@ -167,19 +168,14 @@ fn list_cells(k: Course, start: Place, out: &mut [u32]) -> usize
     ensures out_after { out.new ≡ sets out.old 0 (cells_along k start) }
 {
     let mut p = start;
-    let mut n: usize = 0;
+    let mut n = 0;
+    // From place to place, up to the step that has none.
     loop {
-        let c = low(walk::cell_of(k, p));
-        lists::put32(&mut *out, n, c);
+        lists::put(&mut *out, n, low(walk::cell_of(k, p)));
         n += 1;
-        let s = walk::advance(k, p);
-        match s {
-            Step::Next(q) => {
-                p = q;
-            }
-            Step::Stop => {
-                return n;
-            }
+        match walk::advance(k, p) {
+            Some(q) => p = q,
+            None => return n,
         }
     }
 }
@@ -204,14 +200,9 @@ pub extern "C" fn bf_inner_ray_cells(
     ensures out_after { out.new ≡ sets out.old 0 (lows (ray_cells passer_by (grid_of gx gy cell inv cols rows) (vec ox oy) (vec dx dy) len tt)) }
 {
     let g = numbers::grid_of(gx, gy, cell, inv, cols, rows);
-    let s = walk::traverse_ray(g, Vec2 { x: ox, y: oy }, Vec2 { x: dx, y: dy }, len);
-    match s {
-        Start::From(k, p) => {
-            return list_cells(k, p, out);
-        }
-        Start::Miss => {
-            return 0;
-        }
+    match walk::traverse_ray(g, Vec2 { x: ox, y: oy }, Vec2 { x: dx, y: dy }, len) {
+        Some((k, p)) => list_cells(k, p, out),
+        None => 0,
     }
 }
 
@@ -228,10 +219,10 @@ pub extern "C" fn bf_inner_next_epoch(marks: &mut [u32], epoch: &mut u32)
 // What is read of a text: 0, or the refusal's number.
 #[unsafe(no_mangle)]
 pub extern "C" fn bf_inner_read_input(text: &[u8], pts: &mut [f64], lens: &mut [u32]) -> u32
-    ensures value { result ≡ input_status (input_of (text_in text.now)) }
+    ensures value { result ≡ status_of (input_of (text_in text.now)) }
     ensures says { Says text.now (length pts.old) (length lens.old) (input_of (text_in text.now)) pts.new lens.new }
 {
-    numbers::input_status(wkt::read_input(text, pts, lens))
+    refusal::status(wkt::read_input(text, pts, lens))
 }
 
 // A number with `places` decimals, from the start of `out`.

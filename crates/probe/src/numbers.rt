@@ -1,13 +1,12 @@
 // How grids, boxes, ranges and answers go through the probe: as the numbers that specs/Numbers.antt gives them.
 ghost use Rattle.std.specs.Prelude.{◌≡◌};
 ghost use Rattle.grid.specs.Boxes.{box_at};
-ghost use Rattle.grid.specs.Numbers.{listed_status, listed_counts};
-ghost use Rattle.probe.specs.Numbers.{grid_of, found, four_of, built_status, built_count, input_status};
+ghost use Rattle.grid.specs.Numbers.{listed_counts};
+ghost use Rattle.probe.specs.Numbers.{grid_of, found, four_of, built_count};
 
 use geom::{Aabb, Vec2};
-use grid::{Grid, Listing, Range};
-use tables::Built;
-use wkt::Input;
+use grid::{CellRange, Grid, Listing};
+use refusal::Refusal;
 
 pub fn grid_of(gx: f64, gy: f64, cell: f64, inv: f64, cols: u32, rows: u32) -> Grid
     ensures { result ≡ grid_of gx gy cell inv cols rows }
@@ -28,81 +27,37 @@ pub fn box_of(b: &[f64; 4]) -> Aabb
     grid::box_at(b, 0)
 }
 
-pub fn found(r: Range) -> u32
+pub fn found(r: Option<CellRange>) -> u32
     ensures { result ≡ found r }
 {
-    match r {
-        Range::Cells(_) => 1,
-        Range::Nothing => 0,
-    }
+    r.is_some() as u32
 }
 
 // Four numbers out, a range.
-pub fn put_range(out: &mut [u32; 4], r: Range)
+pub fn put_range(out: &mut [u32; 4], r: Option<CellRange>)
     ensures { out.new ≡ four_of r }
 {
-    match r {
-        Range::Cells(c) => {
-            *out = [c.c0, c.r0, c.c1, c.r1];
-        }
-        Range::Nothing => {
-            *out = [0, 0, 0, 0];
-        }
-    }
+    *out = match r {
+        Some(c) => [c.c0, c.r0, c.c1, c.r1],
+        None => [0; 4],
+    };
 }
 
-pub fn built_status(b: Built) -> u32
-    ensures { result ≡ built_status b }
-{
-    match b {
-        Built::Items(_) => 0,
-        Built::Refused(k) => k,
-    }
-}
-
-pub fn built_count(b: Built) -> u64
+pub fn built_count(b: Result<usize, Refusal>) -> u64
     ensures { result ≡ built_count b }
 {
     match b {
-        Built::Items(n) => n as u64,
-        Built::Refused(_) => 0,
-    }
-}
-
-pub fn listed_status(a: Listing) -> u32
-    ensures { result ≡ listed_status a }
-{
-    match a {
-        Listing::Listed { written, read } => 0,
-        Listing::Refused(k) => k,
+        Ok(n) => n as u64,
+        Err(_) => 0,
     }
 }
 
 // Two numbers out, how many ids were written and how many entries read.
-pub fn put_counts(out: &mut [u64; 2], a: Listing)
+pub fn put_counts(out: &mut [u64; 2], a: Result<Listing, Refusal>)
     ensures { out.new ≡ listed_counts a }
 {
-    match a {
-        Listing::Listed { written, read } => {
-            *out = [written as u64, read as u64];
-        }
-        Listing::Refused(_) => {
-            *out = [0, 0];
-        }
-    }
-}
-
-pub fn input_status(a: Input) -> u32
-    ensures { result ≡ input_status a }
-{
-    match a {
-        Input::Read {
-            x: _,
-            y: _,
-            range: _,
-            polygons: _,
-            points: _,
-        } => 0,
-        Input::Refused(n) => n,
-    }
+    *out = match a {
+        Ok(l) => [l.written as u64, l.read as u64],
+        Err(_) => [0; 2],
+    };
 }

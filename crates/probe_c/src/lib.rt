@@ -3,6 +3,7 @@
 
 ghost use Rattle.std.specs.Prelude.{◌≡◌, ◌≤◌, length, get_or};
 ghost use Rattle.std.proofs.lemmas.List.Edits.{sets};
+ghost use Rattle.refusal.specs.Numbers.{status_of};
 ghost use Rattle.geom.specs.Vec.{vec};
 ghost use Rattle.grid.specs.Boxes.{box_at};
 ghost use Rattle.grid.specs.Range.{columns_of, range_of};
@@ -15,7 +16,7 @@ ghost use Rattle.tables.specs.Tables as tables;
 ghost use Rattle.walk.specs.Tours.{ray_cells, passer_by};
 ghost use Rattle.wkt.specs.Answer.{text_in, input_of, Says};
 ghost use Rattle.wkt_print.specs.Decimal.{shown, Printed};
-ghost use Rattle.probe.specs.Numbers.{grid_of, found, four_of, Builds, lows, input_status};
+ghost use Rattle.probe.specs.Numbers.{grid_of, found, four_of, Builds, lows};
 
 #[unsafe(no_mangle)]
 pub extern "C" fn bf_inner_columns(extent: f64, cell: f64) -> u64
@@ -161,7 +162,7 @@ pub extern "C" fn bf_inner_next_epoch(marks: &mut [u32], epoch: &mut u32)
 // What is read of a text: 0, or the refusal's number.
 #[unsafe(no_mangle)]
 pub extern "C" fn bf_inner_read_input(text: &[u8], pts: &mut [f64], lens: &mut [u32]) -> u32
-    ensures value { result ≡ input_status (input_of (text_in text.now)) }
+    ensures value { result ≡ status_of (input_of (text_in text.now)) }
     ensures says { Says text.now (length pts.old) (length lens.old) (input_of (text_in text.now)) pts.new lens.new }
 {
     probe::bf_inner_read_input(text, pts, lens)

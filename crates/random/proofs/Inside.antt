@@ -23,7 +23,7 @@ use Rattle.bounds.proofs.Domain.{zero_is, within_domain}
 use Rattle.grid.specs.Range.{count_f}
 use Rattle.random.specs.declared.SceneConfig.{SceneConfig}
 use Rattle.random.specs.declared.Head.{Head}
-use Rattle.random.specs.Draws.{head_of, angle_at, corner_by, state_at, corner_at, ring_of, state_of, head_at, len_at, points_to, points_of}
+use Rattle.random.specs.Draws.{head_of, angle_at, corner_by, state_at, corner_at, ring_of, state_of, head_at, from_at, len_at, points_to, points_of}
 use Rattle.random.specs.Outcome.{most, in_random_size}
 use Rattle.random.proofs.Drawing.{head_count}
 use Rattle.random.proofs.Turns.{angle_of, turn_within}
@@ -82,7 +82,7 @@ pub record Placed (h : Head) : Type 0 where
   pub y_in : Within 900000 h.center.y
   pub radius_in : Within 59 h.radius
 
-pub head_placed : (config : SceneConfig) (g : Rng) → in_random_size config.width ≡ true → in_random_size config.height ≡ true → Placed (head_of config g)
+pub head_placed : (config : SceneConfig) (g : Rng) → in_random_size config.width ≡ true → in_random_size config.height ≡ true → Placed (head_of config g).value
 unfolding head_of
 head_placed config g w h = record {
   least = (head_count config g).0;
@@ -103,19 +103,19 @@ module _ (h : Head) (p : Placed h) (i : ℕ) (l : i < h.count) where
       (add_within 900000 236 1000000 c (u ⊗ (h.radius ⊗ (half ⊕ (next_f64_of g).value))) (lit≤ tt) (held tt) a
       (mul_within 2 118 236 u (h.radius ⊗ (half ⊕ (next_f64_of g).value)) (lit≤ tt) (held tt) b (reach g)))
 
-  pub corner_inside : (in_domain (corner_at h i).x ≡ true) × (in_domain (corner_at h i).y ≡ true)
+  pub corner_inside : (g : Rng) → (in_domain (corner_at h g i).x ≡ true) × (in_domain (corner_at h g i).y ≡ true)
   unfolding corner_at corner_by angle_at add_of mul_of from_angle_of
-  corner_inside =
+  corner_inside g =
       let t = turn_within h.count i p.least p.most l in
-      (off h.center.x (cos_of (angle_of h.count i)) (state_at h i) p.x_in t.0, off h.center.y (sin_of (angle_of h.count i)) (state_at h i) p.y_in t.1)
+      (off h.center.x (cos_of (angle_of h.count i)) (state_at h g i) p.x_in t.0, off h.center.y (sin_of (angle_of h.count i)) (state_at h g i) p.y_in t.1)
 
 -- ---- all of them
-ring_inside : (h : Head) → Placed h → All (λ x. in_domain x ≡ true) (ring_of h h.count)
+ring_inside : (h : Head) (g : Rng) → Placed h → All (λ x. in_domain x ≡ true) (ring_of h g h.count)
 unfolding ring_of
-ring_inside h p =
-    all_joined (λ x. in_domain x ≡ true) _ h.count (λ i l. let c = corner_inside h p i l in (c.0, (c.1, tt)))
+ring_inside h g p =
+    all_joined (λ x. in_domain x ≡ true) _ h.count (λ i l. let c = corner_inside h p i l g in (c.0, (c.1, tt)))
 
 pub points_inside : (config : SceneConfig) → in_random_size config.width ≡ true → in_random_size config.height ≡ true → All (λ x. in_domain x ≡ true) (points_of config)
-unfolding points_of points_to head_at len_at
+unfolding points_of points_to head_at from_at len_at
 points_inside config w h =
-    all_joined (λ x. in_domain x ≡ true) _ config.polygon_count (λ k l. ring_inside (head_of config (state_of config k)) (head_placed config (state_of config k) w h))
+    all_joined (λ x. in_domain x ≡ true) _ config.polygon_count (λ k l. ring_inside (head_of config (state_of config k)).value (head_of config (state_of config k)).rng (head_placed config (state_of config k) w h))

@@ -1,14 +1,15 @@
 -- What a random site's building does, one outcome for each setting and lent tables: refusals 2 and 1 first, then what building says of the polygons drawn
 -- (document 01, "A random site's width and height are at most 900,000" and "Refusal numbers"; `Scene::random` of `scene.rs`). Assumes nothing.
-use Rattle.std.specs.Prelude.{◌≡◌, ℕ, Bool, false, cond, ◌&&◌, nat_lt, refl, Float}
+use Rattle.std.specs.Prelude.{◌≡◌, Bool, false, cond, ◌&&◌, nat_lt, refl, Float, Err}
 use Rattle.std.specs.Float.{binary64}
 use Rattle.std.specs.Float.Ieee.{of_bits, round, le}
 use Rattle.num.specs.Ops.{zero_f}
 use Rattle.site.specs.Tables.{Tables}
-use Rattle.build.specs.declared.Made.TheVariants.{Refused}
 use Rattle.build.specs.Outcome as building
 use Rattle.random.specs.declared.SceneConfig.{SceneConfig}
 use Rattle.random.specs.Draws.{points_of, lens_of}
+use Rattle.refusal.specs.declared.Refusal.{Refusal}
+use Rattle.refusal.specs.declared.Refusal.TheVariants.{TooMany, OutsideDomain}
 
 -- `SceneConfig::default`: 500 polygons on 2000 by 2000
 abbrev pub two_thousand : Float
@@ -34,13 +35,13 @@ in_random_size x = le zero_f x && le x most
 
 -- ---- the outcome
 -- refused, and every table as it was
-abbrev pub refused : ℕ → Tables → building.Outcome
-refused number lent = record { answer = Refused number; left = lent }
+abbrev pub refused : Refusal → Tables → building.Outcome
+refused refusal lent = record { answer = Err refusal; left = lent }
 
 -- 2: "over 4,096 polygons"; 1: "a number lies outside the domain"; then building
 unfoldable pub outcome : SceneConfig → Tables → building.Outcome
 outcome config lent =
-    cond (nat_lt 4096 config.polygon_count) (refused 2 lent)
+    cond (nat_lt 4096 config.polygon_count) (refused TooMany lent)
     (cond (in_random_size config.width && in_random_size config.height)
     (building.outcome config.width config.height (points_of config) (lens_of config) lent)
-    (refused 1 lent))
+    (refused OutsideDomain lent))

@@ -11,9 +11,10 @@ ghost use Rattle.build.specs.Outcome.{Does};
 ghost use Rattle.random.specs.Draws.{head_of, corner_by, state_at, ring_of, Drawn};
 ghost use Rattle.random.specs.Outcome.{default_config, in_random_size, outcome};
 
-use build::Made;
 use geom::Vec2;
+use refusal::Refusal;
 use rng::Rng;
+use site::Site;
 
 // Settings of a random site.
 #[derive(Clone, Copy)]
@@ -43,94 +44,69 @@ const TAU: f64 = 6.283185307179586;
 // How many colours there are in the Rust's palette. They are drawn and dropped.
 const PALETTE_LEN: u64 = 10;
 
-// What is drawn of a polygon before its points, and the generator then.
+// What is drawn of a polygon before its points.
 #[derive(Clone, Copy)]
 struct Head {
-    rng: Rng,
     count: u64,
     center: Vec2,
     radius: f64,
 }
 
-// A point, and the generator after it.
-#[derive(Clone, Copy)]
-struct Corner {
-    rng: Rng,
-    at: Vec2,
-}
-
-fn draw_head(config: SceneConfig, state: Rng) -> Head
-    ensures { result ≡ head_of config state }
+fn draw_head(config: SceneConfig, rng: &mut Rng) -> Head
+    ensures value { result ≡ (head_of config rng.old).value }
+    ensures after { rng.new ≡ (head_of config rng.old).rng }
 {
-    let a = state.range(3, 9);
-    let state = a.rng;
-    let b = state.range(0, num::to_u64(config.width));
-    let state = b.rng;
-    let c = state.range(0, num::to_u64(config.height));
-    let state = c.rng;
-    let d = state.range(5, 60);
-    let rng = d.rng;
-    let x = std::num::nearest_u64_to_f64(b.value);
-    let y = std::num::nearest_u64_to_f64(c.value);
+    let count = rng.range(3, 9);
+    let x = rng.range(0, num::to_u64(config.width));
+    let y = rng.range(0, num::to_u64(config.height));
+    let radius = rng.range(5, 60);
     Head {
-        rng,
-        count: a.value,
-        center: Vec2 { x, y },
-        radius: std::num::nearest_u64_to_f64(d.value),
+        count,
+        center: Vec2 {
+            x: std::num::nearest_u64_to_f64(x),
+            y: std::num::nearest_u64_to_f64(y),
+        },
+        radius: std::num::nearest_u64_to_f64(radius),
     }
 }
 
 // The point i of the polygon.
-fn draw_corner(h: Head, i: u64, state: Rng) -> Corner
-    ensures { result ≡ corner_by h i state }
+fn draw_corner(h: Head, i: u64, rng: &mut Rng) -> Vec2
+    ensures value { result ≡ (corner_by h i rng.old).value }
+    ensures after { rng.new ≡ (corner_by h i rng.old).rng }
 {
-    let f = state.next_f64();
-    let rng = f.rng;
-    let center = h.center;
     let angle = TAU * std::num::nearest_u64_to_f64(i) / std::num::nearest_u64_to_f64(h.count);
-    let at = center.add(Vec2::from_angle(angle).mul(h.radius * (0.5 + f.value)));
-    Corner { rng, at }
+    let reach = h.radius * (0.5 + rng.next_f64());
+    h.center.add(Vec2::from_angle(angle).mul(reach))
 }
 
-// Writes the polygon's points from the point `first` on, and hands back the generator.
-fn draw_ring(given: &mut [f64], h: Head, first: usize) -> Rng
+// Draws the polygon's points and writes them from the point `first` on.
+fn draw_ring(given: &mut [f64], h: Head, first: usize, rng: &mut Rng)
     requires { (h.count ≤ 8) × (first ≤ 32768) }
-    ensures value { result ≡ state_at h h.count }
-    ensures given_after { given.new ≡ sets given.old (2 * first) (ring_of h h.count) }
+    ensures after { rng.new ≡ state_at h rng.old h.count }
+    ensures given_after { given.new ≡ sets given.old (2 * first) (ring_of h rng.old h.count) }
 {
-    let count = h.count;
-    let mut state = h.rng;
-    let mut i: u64 = 0;
-    while i < count {
-        let c = draw_corner(h, i, state);
+    for i in 0..h.count {
+        let corner = draw_corner(h, i, rng);
         let at = 2 * (first + i as usize);
-        lists::put64(&mut *given, at, c.at.x);
-        lists::put64(&mut *given, at + 1, c.at.y);
-        let next = c.rng;
-        state = next;
-        i += 1;
+        lists::put(given, at, corner.x);
+        lists::put(given, at + 1, corner.y);
     }
-    state
 }
 
-// Writes the points of all polygons and their lengths; how many points there are.
+// Draws the points of all polygons and writes them and their lengths; how many points there are.
 fn draw_polygons(config: SceneConfig, given: &mut [f64], lens: &mut [u32]) -> usize
     requires { config.polygon_count ≤ 4096 }
     ensures { Drawn config result given.old given.new lens.old lens.new }
 {
-    let n = config.polygon_count;
-    let mut state = Rng::new(config.seed);
+    let mut rng = Rng::new(config.seed);
     let mut first: usize = 0;
-    let mut k: usize = 0;
-    while k < n {
-        let h = draw_head(config, state);
-        let count = h.count;
-        lists::put32(&mut *lens, k, count as u32);
-        let colour = draw_ring(&mut *given, h, first).range(0, PALETTE_LEN);
-        let next = colour.rng;
-        state = next;
-        first += count as usize;
-        k += 1;
+    for k in 0..config.polygon_count {
+        let h = draw_head(config, &mut rng);
+        lists::put(lens, k, h.count as u32);
+        draw_ring(given, h, first, &mut rng);
+        let _colour = rng.range(0, PALETTE_LEN);
+        first += h.count as usize;
     }
     first
 }
@@ -156,17 +132,17 @@ pub fn random(
     owners: &mut [u32],
     starts: &mut [u32],
     items: &mut [u32],
-) -> Made
+) -> Result<Site, Refusal>
     ensures { Does (outcome config (tables points.old boxes.old polygons.old owners.old starts.old items.old)) result
         (tables points.new boxes.new polygons.new owners.new starts.new items.new) }
 {
     let n = config.polygon_count;
     let sizes = in_random_size(config.width) & in_random_size(config.height);
     if POLYGONS < n {
-        return Made::Refused(2);
+        return Err(Refusal::TooMany);
     }
     if !sizes {
-        return Made::Refused(1);
+        return Err(Refusal::OutsideDomain);
     }
     let mut given = [0.0; NUMBERS];
     let mut lens = [0u32; POLYGONS];
@@ -175,8 +151,8 @@ pub fn random(
     build::new(
         config.width,
         config.height,
-        &given[0..end],
-        &lens[0..n],
+        &given[..end],
+        &lens[..n],
         points,
         boxes,
         polygons,

@@ -1,4 +1,5 @@
 -- One sample's answer, direction and tie, and those of the samples before i. Assumes nothing.
+use Rattle.std.proofs.Common.{Option}
 use mathlib.Core.Path.{◌≡◌, refl, sym, ap, ◌∙◌, subst}
 use mathlib.Core.Logic.{inl, inr, ⊎_elim}
 use mathlib.Core.Bool.{Bool}
@@ -16,7 +17,6 @@ use Rattle.lists.proofs.Only.{only_refl, only_trans, only_wider, only_part}
 use Rattle.geom.specs.declared.Vec2.{Vec2}
 use Rattle.geom.specs.Vec.{from_angle_of}
 use Rattle.cone.specs.declared.View.{View}
-use Rattle.site.specs.declared.Cast.{Cast}
 use Rattle.room.specs.declared.Rooms.{Rooms}
 use Rattle.room.specs.declared.Sample.{Sample}
 use Rattle.room.specs.Layout.{samples_f, distances_f, dirs_f, floats_for, samples_w, order_w, Place}
@@ -30,6 +30,7 @@ use Rattle.index.proofs.Kept.{index_behind}
 use Rattle.rays.specs.Samples.{hit_of, tied_on, Lone, cast_ray}
 use Rattle.rays.specs.Stands.{Answer, Castable, Casts}
 use Rattle.rays.proofs.Ways.{cast_is, tied_is}
+use Rattle.site.specs.declared.RayHit.{RayHit}
 
 pub map_listed : {A B : Type 0} (g : A → B) (f : ℕ → A) (n : ℕ) → map g (listed f n) ≡ listed (λ i. g (f i)) n
 map_listed g f zero = refl
@@ -37,7 +38,7 @@ map_listed g f (suc n) = map-append g (listed f n) (f n ∷ []) ∙ ap (λ (q : 
 
 -- ---- one sample: f₁ and w' after its answer, f' after its direction
 module _ (k : Rooms) (view : View) (x : AngularIndex) (i : ℕ) (f : List Float) (w : List ℕ) (below : i < k.samples) (s : Sample) (hs : s ≡ sample_at k f w i) (d : Vec2) (hd : d ≡ from_angle_of (view.start ⊕ s.angle))
-    (h : Cast) (hh : h ≡ cast_of (index_in k f w x) view.o s.angle d view.r) (tied : Bool) (ht : tied ≡ is_tied (index_in k f w x) view.o s.angle d view.r)
+    (h : (Option RayHit)) (hh : h ≡ cast_of (index_in k f w x) view.o s.angle d view.r) (tied : Bool) (ht : tied ≡ is_tied (index_in k f w x) view.o s.angle d view.r)
     (f₁ : List Float) (w' : List ℕ) (put : HitPut k i h tied f w f₁ w') (f' : List Float) (dput : DirPut k i d f₁ f') where
   -- writing the direction leaves the samples, and writing the answer leaves the directions
   same_sample : (j : ℕ) → j < k.samples → sample_at k f' w' j ≡ sample_at k f₁ w' j
@@ -58,7 +59,7 @@ module _ (k : Rooms) (view : View) (x : AngularIndex) (i : ℕ) (f : List Float)
     };
     tie = record {
       here = put.tie.here
-          ∙ ap (λ (q : Cast). tie_of q tied) (cast_is view (index_in k f w x) (sample_at k f w i) hs hd hh)
+          ∙ ap (λ (q : (Option RayHit)). tie_of q tied) (cast_is view (index_in k f w x) (sample_at k f w i) hs hd hh)
           ∙ ap (tie_of (hit_of view (index_in k f w x) (sample_at k f w i).angle)) (tied_is view (index_in k f w x) (sample_at k f w i) hs hd ht);
       others = put.tie.others;
     };
@@ -141,7 +142,7 @@ module _ (k : Rooms) (view : View) (x : AngularIndex) (n : ℕ) (f₀ : List Flo
       dirs = λ j l. t.dirs j (omega arith) ∙ ap (λ (q : Sample). from_angle_of (view.start ⊕ q.angle)) (sym (t.done j (omega arith)));
       ties = λ j l z.
           subst (λ (q : Sample). Lone view (index_in k f₀ w₀ x) q) (sym (t.done j (omega arith)))
-          (λ u e g. sym (ap (λ (q : Cast). tie_of q (tied_on view (index_in k f₀ w₀ x) (sample_at k f₀ w₀ j).angle)) g) ∙ sym (t.ties j (omega arith)) ∙ z);
+          (λ u e g. sym (ap (λ (q : (Option RayHit)). tie_of q (tied_on view (index_in k f₀ w₀ x) (sample_at k f₀ w₀ j).angle)) g) ∙ sym (t.ties j (omega arith)) ∙ z);
       floats = t.floats;
       words = t.words;
     }

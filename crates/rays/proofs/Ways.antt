@@ -1,5 +1,7 @@
 -- Each way through `aim_at`, `emit`, `event_rays` and `cast_one`, over plain values. Assumes nothing.
-use mathlib.Core.Path.{◌≡◌, ap, ◌∙◌, subst}
+use Rattle.std.proofs.Common.{Option}
+use Rattle.std.specs.Prelude.{Some, None}
+use mathlib.Core.Path.{◌≡◌, refl, ap, ◌∙◌, subst}
 use mathlib.Core.Bool.{Bool, true, false, cond}
 use mathlib.Core.List.{List, [], ◌∷◌, ◌++◌}
 use Prim.Native.Nat.{ℕ, ◌+◌, ◌≤◌}
@@ -13,35 +15,53 @@ use Rattle.geom.specs.Segment.{within}
 use Rattle.geom.specs.Vec.{from_angle_of}
 use Rattle.geom.specs.declared.Vec2.{Vec2}
 use Rattle.cone.specs.declared.View.{View}
-use Rattle.site.specs.declared.Cast.{Cast}
 use Rattle.room.specs.declared.Rooms.{Rooms}
 use Rattle.room.specs.declared.Merged.{Merged}
 use Rattle.room.specs.declared.Sample.{Sample}
 use Rattle.room.specs.Records.{merged_at}
 use Rattle.index.specs.Angular.{Index}
 use Rattle.index.specs.Casting.{cast_of, is_tied}
-use Rattle.rays.specs.declared.Aim.{Aim}
 use Rattle.room.specs.Constants.{angle_eps}
-use Rattle.rays.specs.Samples.{step_of, wrap_of, aim_by, aim_of, Turn, sample_of, ray_of, rays_of, hit_of, tied_on}
+use Rattle.rays.specs.Samples.{step_of, wrap_of, aim_by, aim_of, aimed, Turn, sample_of, ray_of, rays_of, hit_of, tied_on}
 use Rattle.rays.specs.Stands.{turn_at}
+use Rattle.site.specs.declared.RayHit.{RayHit}
 
 module _ (view : View) (event : Float) (offset : ℕ) {s : Float} (hs : s ≡ step_of offset) where
-  pub aim_full : view.full ≡ true → {a : Float} → a ≡ wrap_of (event ⊕ s ⊗ angle_eps) → aim_by true a ≡ aim_of view event offset
+  by_full : view.full ≡ true → {a : Float} → a ≡ wrap_of (event ⊕ s ⊗ angle_eps) → aim_by true a ≡ aim_of view event offset
   unfolding aim_of
-  aim_full e ha = cc
+  by_full e ha = cc
 
-  pub aim_part : view.full ≡ false → aim_by (within zero_f view.fov (event ⊕ s ⊗ angle_eps)) (event ⊕ s ⊗ angle_eps) ≡ aim_of view event offset
+  by_part : view.full ≡ false → aim_by (within zero_f view.fov (event ⊕ s ⊗ angle_eps)) (event ⊕ s ⊗ angle_eps) ≡ aim_of view event offset
   unfolding aim_of
-  aim_part e = cc
+  by_part e = cc
 
-module _ (view : View) (i : ℕ) (event : Float) (offset : ℕ) (a : Aim) (ha : a ≡ aim_of view event offset) where
-  pub ray_kept : a.kept ≡ true → sample_of a.angle i offset ∷ [] ≡ ray_of view i event offset
-  unfolding ray_of
-  ray_kept e = subst (λ (q : Aim). sample_of a.angle i offset ∷ [] ≡ cons_if q.kept (sample_of q.angle i offset) []) ha (rw e)
+  pub aim_full : view.full ≡ true → {a : Float} → a ≡ wrap_of (event ⊕ s ⊗ angle_eps) → Some a ≡ aimed (aim_of view event offset)
+  aim_full e ha = ap aimed (by_full e ha)
 
-  pub ray_none : a.kept ≡ false → [] ≡ ray_of view i event offset
+  pub aim_kept : view.full ≡ false → within zero_f view.fov (event ⊕ s ⊗ angle_eps) ≡ true → Some (event ⊕ s ⊗ angle_eps) ≡ aimed (aim_of view event offset)
+  aim_kept e h = rw h at (ap aimed (by_part e))
+
+  pub aim_none : view.full ≡ false → within zero_f view.fov (event ⊕ s ⊗ angle_eps) ≡ false → None ≡ aimed (aim_of view event offset)
+  aim_none e h = rw h at (ap aimed (by_part e))
+
+-- what is kept of a ray
+module _ (i offset : ℕ) where
+  kept_by : (kept : Bool) (g t : Float) → Some t ≡ cond kept (Some g) None → sample_of t i offset ∷ [] ≡ cons_if kept (sample_of g i offset) []
+  kept_by true g t e = let h : t ≡ g = cc in rw h
+  kept_by false g t e = cc
+
+  none_by : (kept : Bool) (g : Float) → None ≡ cond kept (Some g) None → [] ≡ cons_if kept (sample_of g i offset) []
+  none_by true g e = cc
+  none_by false g e = refl
+
+module _ (view : View) (i : ℕ) (event : Float) (offset : ℕ) where
+  pub ray_kept : (t : Float) → Some t ≡ aimed (aim_of view event offset) → sample_of t i offset ∷ [] ≡ ray_of view i event offset
   unfolding ray_of
-  ray_none e = subst (λ (q : Aim). [] ≡ cons_if q.kept (sample_of q.angle i offset) []) ha (rw e)
+  ray_kept t e = kept_by i offset (aim_of view event offset).kept (aim_of view event offset).angle t e
+
+  pub ray_none : None ≡ aimed (aim_of view event offset) → [] ≡ ray_of view i event offset
+  unfolding ray_of
+  ray_none e = none_by i offset (aim_of view event offset).kept (aim_of view event offset).angle e
 
 pub ray_few : (view : View) (i : ℕ) (event : Float) (offset : ℕ) → length (ray_of view i event offset) ≤ 1
 unfolding ray_of
@@ -74,7 +94,7 @@ pub rays_few : (view : View) (i : ℕ) (t : Turn) → length (rays_of view i t) 
 unfolding rays_of
 rays_few view i t = two_or_three view i t.angle t.side
 
-pub cast_is : (view : View) (x : Index) (whole : Sample) {s : Sample} {d : Vec2} {r : Cast} → s ≡ whole → d ≡ from_angle_of (view.start ⊕ s.angle) → r ≡ cast_of x view.o s.angle d view.r → r ≡ hit_of view x whole.angle
+pub cast_is : (view : View) (x : Index) (whole : Sample) {s : Sample} {d : Vec2} {r : (Option RayHit)} → s ≡ whole → d ≡ from_angle_of (view.start ⊕ s.angle) → r ≡ cast_of x view.o s.angle d view.r → r ≡ hit_of view x whole.angle
 unfolding hit_of
 cast_is view x whole {s} hs hd e =
     e ∙ ap (λ (q : Vec2). cast_of x view.o s.angle q view.r) hd ∙ ap (λ (q : Sample). cast_of x view.o q.angle (from_angle_of (view.start ⊕ q.angle)) view.r) hs

@@ -1,7 +1,7 @@
 -- The rays of an outline: one on each side of every event and an exact one at a sector's side, in order of angle, each cast in turn
 -- (`visibility.rs`, lines 380 to 417). Document 01: "Each sample holds its angle, event, offset and that answer"; samples are cast in turn.
 -- An offset is 0 before the event, 1 at it and 2 after it: the Rust's -1, 0 and 1. Definitions only.
-use Rattle.std.specs.Prelude.{◌≡◌, Bool, true, false, cond, List, [], ◌++◌, map, ℕ, eqb, Float}
+use Rattle.std.specs.Prelude.{◌≡◌, Bool, true, false, cond, Option, Some, None, List, [], ◌++◌, map, ℕ, eqb, Float}
 use Rattle.std.specs.Float.Ieee.{neg, lt, le}
 use Rattle.num.specs.Ops.{◌⊕◌, ◌⊖◌, ◌⊗◌, zero_f, one_f}
 use Rattle.num.specs.Order.{before}
@@ -10,8 +10,6 @@ use Rattle.geom.specs.Constants.{tau}
 use Rattle.geom.specs.Segment.{within}
 use Rattle.geom.specs.Vec.{from_angle_of}
 use Rattle.cone.specs.declared.View.{View}
-use Rattle.site.specs.declared.Cast.{Cast}
-use Rattle.site.specs.declared.Cast.TheVariants.{Hit, Miss}
 use Rattle.sorts.specs.Sort.{sort}
 use Rattle.sorts.specs.By.{in_order}
 use Rattle.room.specs.declared.Sample.{Sample}
@@ -19,7 +17,8 @@ use Rattle.room.specs.Constants.{angle_eps}
 use Rattle.room.specs.Records.{with_hit}
 use Rattle.index.specs.Angular.{Index}
 use Rattle.index.specs.Casting.{cast_of, is_tied}
-use Rattle.rays.specs.declared.Aim.{Aim}
+use Rattle.site.specs.Hits.{hit_at}
+use Rattle.site.specs.declared.RayHit.{RayHit}
 
 -- `f64::from(offset)`
 unfoldable pub step_of : ℕ → Float
@@ -30,6 +29,14 @@ unfoldable pub wrap_of : Float → Float
 wrap_of a = cond (lt a zero_f) (a ⊕ tau) (cond (le tau a) (a ⊖ tau) a)
 
 -- the angle of a ray, and whether it lies in the view
+pub record Aim : Type 0 where
+  pub kept : Bool
+  pub angle : Float
+
+-- the angle, where it lies in the view
+abbrev pub aimed : Aim → Option Float
+aimed a = cond a.kept (Some a.angle) None
+
 abbrev pub aim_by : Bool → Float → Aim
 aim_by kept angle = record { kept = kept; angle = angle }
 
@@ -46,7 +53,7 @@ pub record Turn : Type 0 where
   pub side : Bool
 
 abbrev pub sample_of : Float → ℕ → ℕ → Sample
-sample_of angle event offset = record { angle = angle; event = event; offset = offset; hit = Miss }
+sample_of angle event offset = record { angle = angle; event = event; offset = offset; hit = None }
 
 -- one ray of an event, where it lies in the view
 unfoldable pub ray_of : View → ℕ → Float → ℕ → List Sample
@@ -72,7 +79,7 @@ unfoldable pub ordered_of : List Sample → List Sample
 ordered_of l = cond (in_order (map (λ s. s.angle) l)) l (sort earlier l)
 
 -- what the ray at an angle hits
-unfoldable pub hit_of : View → Index → Float → Cast
+unfoldable pub hit_of : View → Index → Float → Option RayHit
 unfolding cast_of
 hit_of view x angle = cast_of x view.o angle (from_angle_of (view.start ⊕ angle)) view.r
 
@@ -86,7 +93,7 @@ tied_on view x angle = is_tied x view.o angle (from_angle_of (view.start ⊕ ang
 
 -- it did not, if it hits
 abbrev pub Lone : View → Index → Sample → Type 0
-Lone view x s = (t : Float) (e : ℕ) → hit_of view x s.angle ≡ Hit t e → tied_on view x s.angle ≡ false
+Lone view x s = (t : Float) (e : ℕ) → hit_of view x s.angle ≡ hit_at t e → tied_on view x s.angle ≡ false
 
 -- THE RAYS: in order of angle, each with its answer
 unfoldable pub rays_cast : View → Index → List Sample → List Sample

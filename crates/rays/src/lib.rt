@@ -4,26 +4,19 @@
 
 ghost use Rattle.std.specs.Prelude.{◌≡◌, [], ◌∷◌, ◌+◌, length};
 ghost use Rattle.room.specs.Layout.{Place};
-ghost use Rattle.rays.specs.Samples.{step_of, wrap_of, aim_of, ray_of, rays_of, samples_of};
+ghost use Rattle.rays.specs.Samples.{step_of, wrap_of, aim_of, aimed, ray_of, rays_of, samples_of};
 ghost use Rattle.rays.specs.Stands.{turn_at, Roomy, Emits, Eventful, Answer, Castable, Casts, Sampling, Sampled};
 
 use cone::View;
 use geom::Vec2;
 use index::AngularIndex;
-use lists::wide;
 use room::{ANGLE_EPS, Rooms, Sample};
-use site::Cast;
+use site::RayHit;
 
 const TAU: f64 = 6.283185307179586;
 
-// The angle of a ray, and whether it lies in the view.
-#[derive(Clone, Copy)]
-struct Aim {
-    kept: bool,
-    angle: f64,
-}
-
-// What the sampling answers: how many samples there are, and whether they pass their entries.
+// What the sampling answers: how many samples there are, and whether they pass their entries. A flag beside the number and no `Option` around it: the
+// number is promised where they pass too (`Sampled`).
 #[derive(Clone, Copy)]
 pub struct Rays {
     pub samples: usize,
@@ -36,13 +29,11 @@ pub struct Rays {
 fn step(offset: u32) -> f64
     ensures { result ≡ step_of offset }
 {
-    if offset == 0 {
-        return -1.0;
+    match offset {
+        0 => -1.0,
+        1 => 0.0,
+        _ => 1.0,
     }
-    if offset == 1 {
-        return 0.0;
-    }
-    1.0
 }
 
 // An angle of a full circle, brought back past its seam.
@@ -58,21 +49,16 @@ fn wrap(angle: f64) -> f64
     angle
 }
 
-// The angle of the ray at an offset from an event.
-fn aim_at(view: View, event: f64, offset: u32) -> Aim
-    ensures { result ≡ aim_of view event offset }
+// The angle of the ray at an offset from an event, where it lies in the view.
+fn aim_at(view: View, event: f64, offset: u32) -> Option<f64>
+    ensures { result ≡ aimed (aim_of view event offset) }
 {
     let angle = event + step(offset) * ANGLE_EPS;
     if view.full {
-        return Aim {
-            kept: true,
-            angle: wrap(angle),
-        };
+        return Some(wrap(angle));
     }
-    Aim {
-        kept: (0.0 <= angle) & (angle <= view.fov),
-        angle,
-    }
+    let kept = (0.0 <= angle) & (angle <= view.fov);
+    if kept { Some(angle) } else { None }
 }
 
 // ---- the samples
@@ -82,9 +68,8 @@ fn push(k: Rooms, floats: &mut [f64], words: &mut [u32], n: usize, s: Sample) ->
     requires { Roomy k floats.old words.old n }
     ensures { Emits k (s ∷ []) n result floats.old words.old floats.new words.new }
 {
-    if n < wide(k.samples) {
+    if n < k.samples as usize {
         room::put_sample(k, floats, words, n as u32, s);
-        return n + 1;
     }
     n + 1
 }
@@ -103,17 +88,16 @@ fn emit(
     requires { Roomy k floats.old words.old n }
     ensures { Emits k (ray_of view i event offset) n result floats.old words.old floats.new words.new }
 {
-    let a = aim_at(view, event, offset);
-    if a.kept {
-        let s = Sample {
-            angle: a.angle,
-            event: i,
-            offset,
-            hit: Cast::Miss,
-        };
-        return push(k, floats, words, n, s);
-    }
-    n
+    let Some(angle) = aim_at(view, event, offset) else {
+        return n;
+    };
+    let s = Sample {
+        angle,
+        event: i,
+        offset,
+        hit: None,
+    };
+    push(k, floats, words, n, s)
 }
 
 // The rays of the merged event i: one on each side, and an exact one at a sector's side.
@@ -143,10 +127,8 @@ fn sample_events(k: Rooms, view: View, events: u32, floats: &mut [f64], words: &
     ensures { Emits k (samples_of view (turn_at k floats.old words.old) events) 0 result floats.old words.old floats.new words.new }
 {
     let mut n: usize = 0;
-    let mut i: u32 = 0;
-    while i < events {
+    for i in 0..events {
         n = event_rays(k, view, &mut *floats, &mut *words, n, i);
-        i += 1;
     }
     n
 }
@@ -173,10 +155,8 @@ fn cast_all(k: Rooms, view: View, x: AngularIndex, n: u32, floats: &mut [f64], w
     requires { Castable k x floats.old words.old n }
     ensures { Casts k view x n floats.old words.old floats.new words.new }
 {
-    let mut i: u32 = 0;
-    while i < n {
+    for i in 0..n {
         cast_one(k, view, x, &mut *floats, &mut *words, i);
-        i += 1;
     }
 }
 
@@ -193,7 +173,7 @@ pub fn sample_rays(
     ensures { Sampled k view x events floats.old words.old result floats.new words.new }
 {
     let n = sample_events(k, view, events, &mut *floats, &mut *words);
-    if wide(k.samples) < n {
+    if (k.samples as usize) < n {
         return Rays {
             samples: n,
             over: true,

@@ -12,13 +12,11 @@ pub fn read_text<R: Read>(input: &mut R, text: &mut [u8]) -> usize
 {
     let most = text.len();
     let mut n: usize = 0;
-    let mut left = most;
-    while 0 < left {
-        left -= 1;
+    for _ in 0..most {
         match input.read(&mut text[n..most]) {
             Err(_) => return most,
             Ok(0) => return n,
-            Ok(got) => n = lists::least(n + got, most),
+            Ok(got) => n = (n + got).min(most),
         }
     }
     n

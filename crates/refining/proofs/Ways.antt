@@ -1,4 +1,5 @@
 -- A ray's point by its direction and by its angle; each way through `crossing`, `look`, `turn_at` and `credit_at`, over plain values. Assumes nothing.
+use Rattle.std.proofs.Common.{None, Option, Some}
 use mathlib.Core.Path.{◌≡◌, refl, sym, ap, ◌∙◌}
 use mathlib.Core.List.{List}
 use mathlib.Core.Bool.{Bool, true, false, ◌&&◌}
@@ -6,13 +7,9 @@ use Prim.Native.Nat.{ℕ}
 use lib.Ieee.{Float, lt}
 use borrow.Author.Tests.{eq-eqb, ne_eqb}
 use Rattle.geom.specs.declared.Vec2.{Vec2}
-use Rattle.geom.specs.declared.Meeting.{Meeting}
-use Rattle.geom.specs.declared.Meeting.TheVariants.{At, Nowhere}
 use Rattle.num.specs.Ops.{◌⊕◌, ◌⊖◌}
 use Rattle.geom.specs.Constants.{tau}
 use Rattle.geom.specs.Vec.{sub_of, angle_of, distance_of, from_angle_of}
-use Rattle.site.specs.declared.Cast.{Cast}
-use Rattle.site.specs.declared.Cast.TheVariants.{Hit, Miss}
 use Rattle.site.specs.declared.Ends.{Ends}
 use Rattle.site.specs.Tables.{edge_of}
 use Rattle.geom.specs.Segment.{normal_of, segment_intersection_of}
@@ -28,28 +25,29 @@ use Rattle.refining.specs.declared.End.{End}
 use Rattle.refining.specs.declared.Turn.{Turn}
 use Rattle.refining.specs.declared.Turn.TheVariants.{Stop, Open, Hidden}
 use Rattle.refining.specs.Refine.{along_of, point_of, credits_for, credits_in, Env, crossing_of, hides, look_of, turn_of}
+use Rattle.site.specs.declared.RayHit.{RayHit}
 
 -- the point along the direction of an angle is the point at that angle
-pub along_is : (view : View) (angle : Float) (hit : Cast) → along_of view (from_angle_of (view.start ⊕ angle)) hit ≡ point_of view angle hit
+pub along_is : (view : View) (angle : Float) (hit : (Option RayHit)) → along_of view (from_angle_of (view.start ⊕ angle)) hit ≡ point_of view angle hit
 unfolding along_of point_of rim_of
 along_is view angle hit = refl
 
-module _ (cast : Float → Cast) (view : View) (a b : End) (p : Vec2) (angle : Float) {q : Cast} (hq : q ≡ cast angle) where
-  pub look_miss : q ≡ Miss → Open p ≡ look_of cast view a b p angle
+module _ (cast : Float → (Option RayHit)) (view : View) (a b : End) (p : Vec2) (angle : Float) {q : (Option RayHit)} (hq : q ≡ cast angle) where
+  pub look_miss : q ≡ None → Open p ≡ look_of cast view a b p angle
   unfolding look_of
   look_miss x = cc
 
-  module _ {t : Float} {e : ℕ} (x : q ≡ Hit t e) where
-    pub look_first : e ≡ a.edge → Open p ≡ look_of cast view a b p angle
+  module _ {r : RayHit} (x : q ≡ Some r) where
+    pub look_first : r.edge ≡ a.edge → Open p ≡ look_of cast view a b p angle
     unfolding look_of
     look_first y = cc (eq-eqb _ _ y)
 
-    pub look_second : (e ≡ a.edge → ⊥) → e ≡ b.edge → Open p ≡ look_of cast view a b p angle
+    pub look_second : (r.edge ≡ a.edge → ⊥) → r.edge ≡ b.edge → Open p ≡ look_of cast view a b p angle
     unfolding look_of
     look_second y z = cc (ne_eqb _ _ y, eq-eqb _ _ z)
 
-    module _ (y : e ≡ a.edge → ⊥) (z : e ≡ b.edge → ⊥) {d : Float} (hd : d ≡ distance_of p view.o) {h : Bool} (hh : h ≡ hides d t) where
-      pub look_hidden : {w : Vec2} → h ≡ true → w ≡ point_of view angle (Hit t e) → Hidden w angle e ≡ look_of cast view a b p angle
+    module _ (y : r.edge ≡ a.edge → ⊥) (z : r.edge ≡ b.edge → ⊥) {d : Float} (hd : d ≡ distance_of p view.o) {h : Bool} (hh : h ≡ hides d r.t) where
+      pub look_hidden : {w : Vec2} → h ≡ true → w ≡ point_of view angle (Some r) → Hidden w angle r.edge ≡ look_of cast view a b p angle
       unfolding look_of
       look_hidden u hw = cc (ne_eqb _ _ y, ne_eqb _ _ z)
 
@@ -58,12 +56,12 @@ module _ (cast : Float → Cast) (view : View) (a b : End) (p : Vec2) (angle : F
       look_behind u = cc (ne_eqb _ _ y, ne_eqb _ _ z)
 
 module _ (v : Env) (a b : End) {e f : Ends} (he : e ≡ edge_of v.points v.polygons v.owners a.edge) (hf : f ≡ edge_of v.points v.polygons v.owners b.edge)
-    {m : Meeting} (hm : m ≡ segment_intersection_of e.a e.b f.a f.b) where
-  pub turn_nowhere : m ≡ Nowhere → Stop ≡ turn_of v a b
+    {m : (Option Vec2)} (hm : m ≡ segment_intersection_of e.a e.b f.a f.b) where
+  pub turn_nowhere : m ≡ None → Stop ≡ turn_of v a b
   unfolding turn_of
   turn_nowhere x = cc
 
-  module _ {p : Vec2} (x : m ≡ At p) {g : Float} (hg : g ≡ crossing_of v.view a.angle p) where
+  module _ {p : Vec2} (x : m ≡ Some p) {g : Float} (hg : g ≡ crossing_of v.view a.angle p) where
     pub turn_outside : (lt a.angle g && lt g b.angle) ≡ false → Stop ≡ turn_of v a b
     unfolding turn_of
     turn_outside y = cc

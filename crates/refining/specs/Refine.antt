@@ -1,18 +1,14 @@
 -- Refining between two hits (`visibility.rs`, `Sweep::refine`, lines 643 to 681) as a recursion on fuel over a run: the outline's numbers, the marks
 -- and the counts. Document 01: "Refining between two hits calls itself on both halves and stops past depth 32; `refinements` counts the casts it makes".
 -- One rounding for each operation, in the Rust's order. Definitions only.
-use Rattle.std.specs.Prelude.{Bool, ◌&&◌, cond, List, ℕ, zero, suc, ◌+◌, ◌*◌, ◌^◌, ◌≤◌, ◌<◌, eqb, Float}
+use Rattle.std.specs.Prelude.{Bool, ◌&&◌, cond, List, ℕ, zero, suc, ◌+◌, ◌*◌, ◌^◌, ◌≤◌, ◌<◌, eqb, Float, None, Option, Some}
 use Rattle.std.specs.Float.Ieee.{lt}
 use Rattle.num.specs.Ops.{◌⊕◌, ◌⊖◌, ◌⊗◌, one_f}
 use Rattle.num.specs.Num.{max_of}
 use Rattle.geom.specs.declared.Vec2.{Vec2}
-use Rattle.geom.specs.declared.Meeting.{Meeting}
-use Rattle.geom.specs.declared.Meeting.TheVariants.{At, Nowhere}
 use Rattle.geom.specs.Constants.{tau, nano}
 use Rattle.geom.specs.Vec.{add_of, sub_of, mul_of, distance_of, angle_of, from_angle_of}
 use Rattle.geom.specs.Segment.{normal_of, segment_intersection_of}
-use Rattle.site.specs.declared.Cast.{Cast}
-use Rattle.site.specs.declared.Cast.TheVariants.{Hit, Miss}
 use Rattle.site.specs.declared.Ends.{Ends}
 use Rattle.site.specs.Tables.{edge_of}
 use Rattle.room.specs.declared.Rooms.{Rooms}
@@ -28,23 +24,25 @@ use Rattle.credit.specs.Credit.{further_of, credits_of, own_all}
 use Rattle.refining.specs.declared.End.{End}
 use Rattle.refining.specs.declared.Turn.{Turn}
 use Rattle.refining.specs.declared.Turn.TheVariants.{Stop, Open, Hidden}
+use Rattle.site.specs.Hits.{hit_at}
+use Rattle.site.specs.declared.RayHit.{RayHit}
 
 -- ---- a ray of the sweep
 -- how far it goes: `hit.map_or(r, |h| h.t)`
-abbrev pub reach_of : Float → Cast → Float
-reach_of r (Hit t e) = t
-reach_of r Miss = r
+abbrev pub reach_of : Float → (Option RayHit) → Float
+reach_of r (Some h) = h.t
+reach_of r None = r
 
 -- where it ends, in a direction
-unfoldable pub along_of : View → Vec2 → Cast → Vec2
+unfoldable pub along_of : View → Vec2 → (Option RayHit) → Vec2
 along_of view dir hit = add_of view.o (mul_of dir (reach_of view.r hit))
 
 -- where it ends, at an angle: the point along that angle's direction (`along_is`, proofs/Ways.antt)
-unfoldable pub point_of : View → Float → Cast → Vec2
+unfoldable pub point_of : View → Float → (Option RayHit) → Vec2
 point_of view angle hit = rim_of view.o (reach_of view.r hit) (view.start ⊕ angle)
 
 -- what it hits: the cast of the index that the work room holds
-unfoldable pub cast_in : Rooms → AngularIndex → List Float → List ℕ → View → Float → Cast
+unfoldable pub cast_in : Rooms → AngularIndex → List Float → List ℕ → View → Float → Option RayHit
 cast_in k x floats words view angle = cast_of (index_in k floats words x) view.o angle (from_angle_of (view.start ⊕ angle)) view.r
 
 -- the edges that have an entry where it hits the edge e, by the index
@@ -60,7 +58,7 @@ credits_in k x floats words owners view angle e = credits_for view (index_in k f
 
 -- what a sweep goes by: its casts and their credits, the view, the site's tables, and the entries allowed to the owners
 pub record Env : Type 0 where
-  pub cast : Float → Cast
+  pub cast : Float → Option RayHit
   pub credits : Float → ℕ → List ℕ
   pub view : View
   pub points : List Float
@@ -68,7 +66,7 @@ pub record Env : Type 0 where
   pub owners : List ℕ
   pub room : ℕ
 
-abbrev pub env : (Float → Cast) → (Float → ℕ → List ℕ) → View → List Float → List ℕ → List ℕ → ℕ → Env
+abbrev pub env : (Float → (Option RayHit)) → (Float → ℕ → List ℕ) → View → List Float → List ℕ → List ℕ → ℕ → Env
 env cast credits view points polygons owners room =
     record { cast = cast; credits = credits; view = view; points = points; polygons = polygons; owners = owners; room = room }
 
@@ -89,24 +87,24 @@ unfoldable pub hides : Float → Float → Bool
 hides dist t = lt t (dist ⊖ nano ⊗ max_of dist one_f)
 
 -- by what is hit at the crossing's angle: an edge of neither end, in front of the crossing, hides it
-abbrev pub look_by : Cast → View → End → End → Vec2 → Float → Turn
-look_by (Hit t e) view a b p angle =
-    cond (eqb e a.edge) (Open p)
-    (cond (eqb e b.edge) (Open p) (cond (hides (distance_of p view.o) t) (Hidden (point_of view angle (Hit t e)) angle e) (Open p)))
-look_by Miss view a b p angle = Open p
+abbrev pub look_by : (Option RayHit) → View → End → End → Vec2 → Float → Turn
+look_by (Some h) view a b p angle =
+    cond (eqb h.edge a.edge) (Open p)
+    (cond (eqb h.edge b.edge) (Open p) (cond (hides (distance_of p view.o) h.t) (Hidden (point_of view angle (hit_at h.t h.edge)) angle h.edge) (Open p)))
+look_by None view a b p angle = Open p
 
-unfoldable pub look_of : (Float → Cast) → View → End → End → Vec2 → Float → Turn
+unfoldable pub look_of : (Float → (Option RayHit)) → View → End → End → Vec2 → Float → Turn
 look_of cast view a b p angle = look_by (cast angle) view a b p angle
 
 -- by where the ends' edges meet: the crossing counts where its angle lies between those of the ends
-abbrev pub turn_by : Meeting → Env → End → End → Turn
-turn_by (At p) v a b =
+abbrev pub turn_by : (Option Vec2) → Env → End → End → Turn
+turn_by (Some p) v a b =
     let angle = crossing_of v.view a.angle p in
     cond (lt a.angle angle && lt angle b.angle) (look_of v.cast v.view a b p angle) Stop
-turn_by Nowhere v a b = Stop
+turn_by None v a b = Stop
 
 -- where two edges of the site meet
-abbrev pub meet_of : Ends → Ends → Meeting
+abbrev pub meet_of : Ends → Ends → Option Vec2
 meet_of e f = segment_intersection_of e.a e.b f.a f.b
 
 unfoldable pub turn_of : Env → End → End → Turn

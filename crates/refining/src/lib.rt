@@ -10,11 +10,11 @@ ghost use Rattle.credit.specs.Credit.{own_all, Credited};
 ghost use Rattle.refining.specs.Refine.{reach_of, along_of, point_of, cast_in, credits_in, crossing_of, hides, env_in, look_of, turn_of, counted_of, run_at, refine_of, Ready, Done};
 
 use cone::View;
-use geom::{Meeting, Vec2};
+use geom::Vec2;
 use index::AngularIndex;
 use outline::{CORNER, Trace};
 use room::Rooms;
-use site::Cast;
+use site::{RayHit, SiteTables};
 
 const TAU: f64 = 6.283185307179586;
 
@@ -34,17 +34,17 @@ pub enum Turn {
 }
 
 // How far a ray goes: to its hit, or as far as the range r.
-pub fn reach(r: f64, hit: Cast) -> f64
+pub fn reach(r: f64, hit: Option<RayHit>) -> f64
     ensures { result ≡ reach_of r hit }
 {
     match hit {
-        Cast::Hit(t, _) => t,
-        Cast::Miss => r,
+        Some(hit) => hit.t,
+        None => r,
     }
 }
 
 // Where the ray in a direction ends.
-pub fn point_along(view: View, dir: Vec2, hit: Cast) -> Vec2
+pub fn point_along(view: View, dir: Vec2, hit: Option<RayHit>) -> Vec2
     ensures { result ≡ along_of view dir hit }
 {
     let o = view.o;
@@ -52,14 +52,21 @@ pub fn point_along(view: View, dir: Vec2, hit: Cast) -> Vec2
 }
 
 // The Rust's `Sweep::point`: where the ray at an angle ends.
-pub fn point(view: View, angle: f64, hit: Cast) -> Vec2
+pub fn point(view: View, angle: f64, hit: Option<RayHit>) -> Vec2
     ensures { result ≡ point_of view angle hit }
 {
     point_along(view, Vec2::from_angle(view.start + angle), hit)
 }
 
 // The Rust's `Sweep::cast`.
-fn cast_at(k: Rooms, x: AngularIndex, floats: &[f64], words: &[u32], view: View, angle: f64) -> Cast
+fn cast_at(
+    k: Rooms,
+    x: AngularIndex,
+    floats: &[f64],
+    words: &[u32],
+    view: View,
+    angle: f64,
+) -> Option<RayHit>
     ensures { result ≡ cast_in k x floats.now words.now view angle }
 {
     let o = view.o;
@@ -108,24 +115,13 @@ fn look(
 ) -> Turn
     ensures { result ≡ look_of (cast_in k x floats.now words.now view) view a b p angle }
 {
-    let o = view.o;
-    let ea = a.edge;
-    let eb = b.edge;
-    let hit = cast_at(k, x, floats, words, view, angle);
-    match hit {
-        Cast::Hit(t, e) => {
-            if e == ea {
-                return Turn::Open(p);
-            }
-            if e == eb {
-                return Turn::Open(p);
-            }
-            if is_before(p.distance(o), t) {
-                return Turn::Hidden(point(view, angle, hit), angle, e);
-            }
-            Turn::Open(p)
+    let cast = cast_at(k, x, floats, words, view, angle);
+    match cast {
+        Some(hit)
+            if hit.edge != a.edge && hit.edge != b.edge && is_before(p.distance(view.o), hit.t) => {
+            Turn::Hidden(point(view, angle, cast), angle, hit.edge)
         }
-        Cast::Miss => Turn::Open(p),
+        _ => Turn::Open(p),
     }
 }
 
@@ -135,28 +131,23 @@ fn turn_at(
     x: AngularIndex,
     floats: &[f64],
     words: &[u32],
-    points: &[f64],
-    polygons: &[u32],
-    owners: &[u32],
+    tables: &SiteTables,
     view: View,
     a: End,
     b: End,
 ) -> Turn
-    ensures { result ≡ turn_of (env_in k x floats.now words.now view points.now polygons.now owners.now) a b }
+    ensures { result ≡ turn_of (env_in k x floats.now words.now view tables.now.points.now tables.now.polygons.now tables.now.owners.now) a b }
 {
-    let ea = site::edge(points, polygons, owners, a.edge);
-    let eb = site::edge(points, polygons, owners, b.edge);
-    let met = geom::segment_intersection(ea.a, ea.b, eb.a, eb.b);
-    match met {
-        Meeting::At(p) => {
-            let angle = crossing(view, a.angle, p);
-            if (angle > a.angle) & (angle < b.angle) {
-                return look(k, x, floats, words, view, a, b, p, angle);
-            }
-            Turn::Stop
-        }
-        Meeting::Nowhere => Turn::Stop,
+    let ea = site::edge(tables.points, tables.polygons, tables.owners, a.edge);
+    let eb = site::edge(tables.points, tables.polygons, tables.owners, b.edge);
+    let Some(p) = geom::segment_intersection(ea.a, ea.b, eb.a, eb.b) else {
+        return Turn::Stop;
+    };
+    let angle = crossing(view, a.angle, p);
+    if (angle > a.angle) & (angle < b.angle) {
+        return look(k, x, floats, words, view, a, b, p, angle);
     }
+    Turn::Stop
 }
 
 // One cast more.
@@ -165,12 +156,8 @@ fn counted(s: Trace) -> Trace
     ensures { result ≡ counted_of s }
 {
     Trace {
-        points: s.points,
-        last: s.last,
-        prev: s.prev,
-        owners: s.owners,
         refinements: s.refinements + 1,
-        over: s.over,
+        ..s
     }
 }
 
@@ -215,9 +202,7 @@ pub fn refine(
     x: AngularIndex,
     floats: &[f64],
     words: &[u32],
-    points: &[f64],
-    polygons: &[u32],
-    owners: &[u32],
+    tables: &SiteTables,
     pts: &mut [f64],
     marks: &mut [u8],
     view: View,
@@ -227,7 +212,7 @@ pub fn refine(
     s: Trace,
 ) -> Trace
     requires { Ready (length pts.old) k.owners s }
-    ensures result_after { run_at pts.new marks.new result ≡ refine_of (env_in k x floats.now words.now view points.now polygons.now owners.now) (33 - depth) a b (run_at pts.old marks.old s) }
+    ensures result_after { run_at pts.new marks.new result ≡ refine_of (env_in k x floats.now words.now view tables.now.points.now tables.now.polygons.now tables.now.owners.now) (33 - depth) a b (run_at pts.old marks.old s) }
     ensures done { Done (length pts.old) k.owners s result }
 {
     if 32 < depth {
@@ -237,7 +222,7 @@ pub fn refine(
         return s;
     }
     let o = view.o;
-    let t = turn_at(k, x, floats, words, points, polygons, owners, view, a, b);
+    let t = turn_at(k, x, floats, words, tables, view, a, b);
     match t {
         Turn::Stop => s,
         Turn::Open(p) => outline::push(pts, counted(s), o, p, CORNER),
@@ -248,7 +233,7 @@ pub fn refine(
                 x,
                 floats,
                 words,
-                owners,
+                tables.owners,
                 marks,
                 view,
                 angle,
@@ -260,9 +245,7 @@ pub fn refine(
                 x,
                 floats,
                 words,
-                points,
-                polygons,
-                owners,
+                tables,
                 pts,
                 marks,
                 view,
@@ -277,9 +260,7 @@ pub fn refine(
                 x,
                 floats,
                 words,
-                points,
-                polygons,
-                owners,
+                tables,
                 pts,
                 marks,
                 view,

@@ -1,5 +1,5 @@
 // What a call of numbers answers: a few words, the rest 0.
-use lines::{pattern, push, wide};
+use lines::pattern;
 
 #[derive(Clone, Copy)]
 pub struct Answer {
@@ -23,7 +23,7 @@ pub(crate) fn word(w: u64) -> Answer {
 }
 
 pub(crate) fn number(n: u32) -> Answer {
-    word(wide(n))
+    word(u64::from(n))
 }
 
 pub(crate) fn float(x: f64) -> Answer {
@@ -60,13 +60,13 @@ pub(crate) fn both(v: u64, w: u64) -> Answer {
 
 // A number and then floats.
 pub(crate) fn number1(n: u32, x: f64) -> Answer {
-    both(wide(n), pattern(x))
+    both(u64::from(n), pattern(x))
 }
 
 pub(crate) fn number2(n: u32, v: [f64; 2]) -> Answer {
     Answer {
         count: 3,
-        words: [wide(n), pattern(v[0]), pattern(v[1]), 0, 0],
+        words: [u64::from(n), pattern(v[0]), pattern(v[1]), 0, 0],
     }
 }
 
@@ -74,7 +74,7 @@ pub(crate) fn number4(n: u32, v: [f64; 4]) -> Answer {
     Answer {
         count: 5,
         words: [
-            wide(n),
+            u64::from(n),
             pattern(v[0]),
             pattern(v[1]),
             pattern(v[2]),
@@ -90,11 +90,8 @@ pub(crate) fn float_state(x: f64, state: u64) -> Answer {
 
 // The words of an answer into out; how many there are.
 pub(crate) fn store(out: &mut [u64], a: Answer) -> usize {
-    let words = a.words;
-    let mut i: usize = 0;
-    while i < 5 {
-        push(&mut *out, i, words[i]);
-        i += 1;
+    for (to, word) in out.iter_mut().zip(a.words) {
+        *to = word;
     }
     a.count
 }

@@ -53,32 +53,30 @@ fn answer_angle(f: u64, x: f64, y: f64) -> Answer {
 // rng: 301 to 303
 fn answer_rng(f: u64, state: u64, lo: u64, hi: u64) -> Answer {
     let mut next: u64 = 0;
-    if f == 301 {
-        let v = exports::bf_rng_next_u64(state, &mut next);
-        return answer::both(v, next);
+    match f {
+        301 => {
+            let v = exports::bf_rng_next_u64(state, &mut next);
+            answer::both(v, next)
+        }
+        302 => {
+            let x = exports::bf_rng_next_f64(state, &mut next);
+            answer::float_state(x, next)
+        }
+        303 => {
+            let v = exports::bf_rng_range(state, lo, hi, &mut next);
+            answer::both(v, next)
+        }
+        _ => answer::nothing(),
     }
-    if f == 302 {
-        let x = exports::bf_rng_next_f64(state, &mut next);
-        return answer::float_state(x, next);
-    }
-    if f == 303 {
-        let v = exports::bf_rng_range(state, lo, hi, &mut next);
-        return answer::both(v, next);
-    }
-    answer::nothing()
 }
 
 fn answer_numbers(f: u64, w: &[u64]) -> Answer {
-    if f < 200 {
-        return answer_num(f, float(w, 1), float(w, 2), float(w, 3));
+    match f {
+        0..=199 => answer_num(f, float(w, 1), float(w, 2), float(w, 3)),
+        200..=299 => answer_angle(f, float(w, 1), float(w, 2)),
+        300..=400 => answer_rng(f, word(w, 1), word(w, 2), word(w, 3)),
+        _ => plane::answer_plane(f, w),
     }
-    if f < 300 {
-        return answer_angle(f, float(w, 1), float(w, 2));
-    }
-    if 400 < f {
-        return plane::answer_plane(f, w);
-    }
-    answer_rng(f, word(w, 1), word(w, 2), word(w, 3))
 }
 
 // The results of the call that the first n words of w name, into out; how many there are, 0 where there is no such function.

@@ -1,6 +1,6 @@
 // grid, tables and walk: 501 to 504 and 507, the inner functions of crate `probe`. A grid is six words from word 1 on, boxes are a count and their numbers.
 // There is room for 64 cells, 64 numbers of boxes, 64 items, 16 marks and 64 ids; over that is no answer. The tables of 504 are built first, as 503 builds them.
-ghost use Rattle.std.specs.Prelude.{◌≡◌, ◌*◌, ◌<◌};
+ghost use Rattle.std.specs.Prelude.{◌≡◌, ◌*◌, ◌<◌, IfSome};
 ghost use Rattle.grid.specs.Entries.{SoundGrid};
 ghost use Rattle.tables.specs.Tables.{Buildable};
 ghost use Rattle.probe.specs.Numbers.{grid_of};
@@ -8,7 +8,7 @@ ghost use Rattle.probe.specs.Numbers.{grid_of};
 use crate::answer;
 use crate::answer::Answer;
 use crate::plane::filled;
-use lines::{float, narrow, push, push_list, wide, word};
+use lines::{float, narrow, push, push_list, word};
 
 fn answer_range(w: &[u64]) -> Answer {
     let b = [float(w, 7), float(w, 8), float(w, 9), float(w, 10)];
@@ -26,11 +26,11 @@ fn answer_range(w: &[u64]) -> Answer {
     Answer {
         count: 5,
         words: [
-            wide(n),
-            wide(out[0]),
-            wide(out[1]),
-            wide(out[2]),
-            wide(out[3]),
+            u64::from(n),
+            u64::from(out[0]),
+            u64::from(out[1]),
+            u64::from(out[2]),
+            u64::from(out[3]),
         ],
     }
 }
@@ -64,7 +64,7 @@ fn build_tables(
     )
 }
 
-// Builds the tables of the words' grid and boxes; the status, or 9 where the site is none or too large for this program.
+// Builds the tables of the words' grid and boxes; the status, or nothing where the site is none or too large for this program.
 fn build(
     w: &[u64],
     cols: u32,
@@ -72,37 +72,31 @@ fn build(
     starts: &mut [u32],
     items: &mut [u32],
     count: &mut u64,
-) -> u32
-    ensures { result ≡ 0 → SoundGrid cols rows starts.new items.new }
+) -> Option<u32>
+    ensures { IfSome result (λ status. status ≡ 0 → SoundGrid cols rows starts.new items.new) }
 {
-    if cols == 0 {
-        return 9;
-    }
-    if rows == 0 {
-        return 9;
-    }
-    if 64 < cells_of(cols, rows) {
-        return 9;
+    if cols == 0 || rows == 0 || 64 < cells_of(cols, rows) {
+        return None;
     }
     let n = word(w, 7);
     if 64 < n {
-        return 9;
+        return None;
     }
     let boxes = filled(w, 8);
     let end = n as usize;
-    build_tables(
+    Some(build_tables(
         float(w, 1),
         float(w, 2),
         float(w, 3),
         float(w, 4),
         cols,
         rows,
-        &boxes[0..end],
+        &boxes[..end],
         end / 4,
         starts,
         items,
         count,
-    )
+    ))
 }
 
 fn answer_build(w: &[u64], out: &mut [u64]) -> usize {
@@ -111,12 +105,11 @@ fn answer_build(w: &[u64], out: &mut [u64]) -> usize {
     let mut starts = [0u32; 65];
     let mut items = [0u32; 64];
     let mut count: u64 = 0;
-    let status = build(w, cols, rows, &mut starts, &mut items, &mut count);
-    if status == 9 {
+    let Some(status) = build(w, cols, rows, &mut starts, &mut items, &mut count) else {
         return 0;
-    }
+    };
     let cells = cells_of(cols, rows);
-    let mut at = push(&mut *out, 0, wide(status));
+    let mut at = push(&mut *out, 0, u64::from(status));
     at = push(&mut *out, at, count);
     at = push_list(&mut *out, at, &starts, cells + 1);
     push_list(&mut *out, at, &items, count as usize)
@@ -127,10 +120,8 @@ fn marks_of(w: &[u64], first: usize) -> [u32; 16]
     requires { first < 128 }
 {
     let mut marks = [0u32; 16];
-    let mut i: usize = 0;
-    while i < 16 {
-        marks[i] = narrow(w, first + i);
-        i += 1;
+    for (i, mark) in marks.iter_mut().enumerate() {
+        *mark = narrow(w, first + i);
     }
     marks
 }
@@ -173,10 +164,10 @@ fn query(
         &mut *ids,
         &mut counts,
     );
-    let mut at = push(&mut *out, 0, wide(status));
+    let mut at = push(&mut *out, 0, u64::from(status));
     at = push(&mut *out, at, counts[0]);
     at = push(&mut *out, at, counts[1]);
-    at = push(&mut *out, at, wide(epoch));
+    at = push(&mut *out, at, u64::from(epoch));
     at = push_list(&mut *out, at, marks, marks.len());
     push_list(&mut *out, at, ids, ids.len())
 }
@@ -209,8 +200,8 @@ fn asked(w: &[u64], cols: u32, rows: u32, starts: &[u32], items: &[u32], out: &m
         rows,
         starts,
         items,
-        &mut marks[0..last],
-        &mut ids[0..room],
+        &mut marks[..last],
+        &mut ids[..room],
         out,
     )
 }
@@ -221,11 +212,10 @@ fn answer_query(w: &[u64], out: &mut [u64]) -> usize {
     let mut starts = [0u32; 65];
     let mut items = [0u32; 64];
     let mut count: u64 = 0;
-    let status = build(w, cols, rows, &mut starts, &mut items, &mut count);
-    if status == 0 {
-        return asked(w, cols, rows, &starts, &items, out);
+    match build(w, cols, rows, &mut starts, &mut items, &mut count) {
+        Some(0) => asked(w, cols, rows, &starts, &items, out),
+        _ => 0,
     }
-    0
 }
 
 fn answer_cells(w: &[u64], out: &mut [u64]) -> usize {
@@ -249,23 +239,15 @@ fn answer_cells(w: &[u64], out: &mut [u64]) -> usize {
 }
 
 pub(crate) fn answer_inner(f: u64, w: &[u64], out: &mut [u64]) -> usize {
-    if f == 501 {
-        return answer::store(
-            out,
-            answer::word(probe::bf_inner_columns(float(w, 1), float(w, 2))),
-        );
+    match f {
+        501 => {
+            let columns = probe::bf_inner_columns(float(w, 1), float(w, 2));
+            answer::store(out, answer::word(columns))
+        }
+        502 => answer::store(out, answer_range(w)),
+        503 => answer_build(w, out),
+        504 => answer_query(w, out),
+        507 => answer_cells(w, out),
+        _ => 0,
     }
-    if f == 502 {
-        return answer::store(out, answer_range(w));
-    }
-    if f == 503 {
-        return answer_build(w, out);
-    }
-    if f == 504 {
-        return answer_query(w, out);
-    }
-    if f == 507 {
-        return answer_cells(w, out);
-    }
-    0
 }

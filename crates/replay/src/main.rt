@@ -12,12 +12,8 @@ mod plane;
 use lines::{input, one_if_not};
 use std::io;
 
-fn print(rt: &impl Print, text: &[u8]) -> io::Result<()> {
-    rt.write_all(text)
-}
-
 // How far the replay is. The lines of one function stand together, so a change of number is a new function.
-#[derive(Clone, Copy)]
+#[derive(Clone, Copy, Default)]
 struct Tally {
     pub lines: u64,
     pub functions: u64,
@@ -25,16 +21,12 @@ struct Tally {
     pub differ: u64,
 }
 
-fn one_if_new(f: u64, last: u64) -> u64 {
-    if f == last { 0 } else { 1 }
-}
-
 fn counted(t: Tally, f: u64, ok: bool) -> Tally {
     Tally {
-        lines: std::num::wrapping_add_u64(t.lines, 1),
-        functions: std::num::wrapping_add_u64(t.functions, one_if_new(f, t.last)),
+        lines: t.lines.wrapping_add(1),
+        functions: t.functions.wrapping_add(u64::from(f != t.last)),
         last: f,
-        differ: std::num::wrapping_add_u64(t.differ, one_if_not(ok)),
+        differ: t.differ.wrapping_add(one_if_not(ok)),
     }
 }
 
@@ -46,12 +38,10 @@ fn replayed(t: Tally, words: &[u64], n: usize, results: &mut [u64]) -> Tally {
 }
 
 fn report(rt: &impl Print, t: Tally) -> io::Result<()> {
-    rt.print(t.lines)?;
-    print(rt, b" answers of ")?;
-    rt.print(t.functions)?;
-    print(rt, b" functions, ")?;
-    rt.print(t.differ)?;
-    print(rt, b" differ\n")
+    println!(rt;
+        "{} answers of {} functions, {} differ",
+        t.lines, t.functions, t.differ
+    )
 }
 
 // Line by line. The budget is far above any sample, so that the loop ends whatever is read.
@@ -61,23 +51,14 @@ fn main(rt: HostRuntime) -> io::Result<()> {
     let mut results = [0u64; 256];
     let mut at: usize = 0;
     let mut len: usize = 0;
-    let mut t = Tally {
-        lines: 0,
-        functions: 0,
-        last: 0,
-        differ: 0,
-    };
-    let mut left: u32 = 4000000;
-    while 0 < left {
-        left -= 1;
-        let line = input::read_line(&mut rt.stdin(), &mut chunk, at, len, &mut words);
+    let mut t = Tally::default();
+    for _ in 0..4000000 {
+        let Some(line) = input::read_line(&mut rt.stdin(), &mut chunk, at, len, &mut words) else {
+            break;
+        };
         at = line.at;
         len = line.len;
-        if line.end {
-            left = 0;
-        } else {
-            t = replayed(t, &words, line.words, &mut results);
-        }
+        t = replayed(t, &words, line.words, &mut results);
     }
     report(&rt, t)
 }

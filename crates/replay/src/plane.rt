@@ -120,10 +120,8 @@ pub(crate) fn filled(w: &[u64], first: usize) -> [f64; 64]
     requires { first < 16 }
 {
     let mut points = [0.0; 64];
-    let mut i: usize = 0;
-    while i < 64 {
-        points[i] = float(w, first + i);
-        i += 1;
+    for (i, x) in points.iter_mut().enumerate() {
+        *x = float(w, first + i);
     }
     points
 }
@@ -150,7 +148,7 @@ fn answer_points(f: u64, w: &[u64], at: usize) -> Answer
     }
     let points = filled(w, at + 1);
     let end = n as usize;
-    answer_ring(f, float(w, 1), float(w, 2), &points[0..end])
+    answer_ring(f, float(w, 1), float(w, 2), &points[..end])
 }
 
 // What takes numbers alone.
@@ -163,38 +161,21 @@ fn answer_floats(f: u64, w: &[u64]) -> Answer {
     let g = float(w, 6);
     let h = float(w, 7);
     let k = float(w, 8);
-    if f < 409 {
-        if 401 < f {
-            return answer_vec2(f, a, b, c, d);
-        }
+    match f {
+        402..=408 => answer_vec2(f, a, b, c, d),
+        0..=413 => answer_point(f, a, b, c, d, e),
+        414..=440 => answer_boxes(f, a, b, c, d, e, g, h, k),
+        441 => answer::float(plane::bf_normalize_angle(a)),
+        442..=444 => answer_segment(f, a, b, c, d, e, g, h, k),
+        _ => answer_circle(f, a, b, c, d, e, g, h),
     }
-    if f < 414 {
-        return answer_point(f, a, b, c, d, e);
-    }
-    if f < 441 {
-        return answer_boxes(f, a, b, c, d, e, g, h, k);
-    }
-    if f == 441 {
-        return answer::float(plane::bf_normalize_angle(a));
-    }
-    if f < 445 {
-        return answer_segment(f, a, b, c, d, e, g, h, k);
-    }
-    answer_circle(f, a, b, c, d, e, g, h)
 }
 
 pub(crate) fn answer_plane(f: u64, w: &[u64]) -> Answer {
-    if f == 448 {
-        return answer_points(f, w, 3);
+    match f {
+        448 => answer_points(f, w, 3),
+        421 | 449 => answer_points(f, w, 1),
+        0..=447 => answer_floats(f, w),
+        _ => answer::nothing(),
     }
-    if f == 449 {
-        return answer_points(f, w, 1);
-    }
-    if f == 421 {
-        return answer_points(f, w, 1);
-    }
-    if f < 448 {
-        return answer_floats(f, w);
-    }
-    answer::nothing()
 }

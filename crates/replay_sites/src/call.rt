@@ -17,17 +17,15 @@ pub(crate) fn answer(
     out: &mut [u64],
 ) -> usize {
     let f = word(w, 0);
-    if f < 700 {
-        return questions::answer(
+    match f {
+        0..=699 => questions::answer(
             f, head, counts, points, boxes, polygons, owners, starts, items, w, out,
-        );
-    }
-    if f == 703 {
-        return questions::answer_ray_in_mode(
+        ),
+        703 => questions::answer_ray_in_mode(
             head, counts, points, boxes, polygons, owners, starts, items, w, out,
-        );
+        ),
+        _ => outlines::answer(
+            f, head, counts, points, boxes, polygons, owners, starts, items, w, out,
+        ),
     }
-    outlines::answer(
-        f, head, counts, points, boxes, polygons, owners, starts, items, w, out,
-    )
 }

@@ -4,22 +4,18 @@ ghost use Rattle.std.specs.Prelude.{◌<◌};
 
 use crate::tally::{Place, Tally};
 use crate::{call, results, tally};
-use lines::{float, input, narrow, push, push_floats, push_list, wide, word};
+use lines::input::Line;
+use lines::{float, input, narrow, push, push_floats, push_list, word};
 use std::io::Read;
 
 // The number of a line that builds a site.
 const SITE: u64 = 601;
 
-// The status of a line that builds no site, or one with more points or polygons than there is room for.
-const NONE: u32 = 9;
-
 // 192 numbers of w from word 4 on.
 fn given_in(w: &[u64]) -> [f64; 192] {
     let mut given = [0.0; 192];
-    let mut i: usize = 0;
-    while i < 192 {
-        given[i] = float(w, i + 4);
-        i += 1;
+    for (i, x) in given.iter_mut().enumerate() {
+        *x = float(w, i + 4);
     }
     given
 }
@@ -29,15 +25,13 @@ fn lengths_in(w: &[u64], first: usize) -> [u32; 16]
     requires { first < 256 }
 {
     let mut lens = [0u32; 16];
-    let mut i: usize = 0;
-    while i < 16 {
-        lens[i] = narrow(w, first + i);
-        i += 1;
+    for (i, len) in lens.iter_mut().enumerate() {
+        *len = narrow(w, first + i);
     }
     lens
 }
 
-// Builds the site of a line of 601; the status.
+// Builds the site of a line of 601; the status. Nothing, where the line builds no site, or one with more points or polygons than there is room for.
 fn build(
     w: &[u64],
     points: &mut [f64],
@@ -48,27 +42,27 @@ fn build(
     items: &mut [u32],
     head: &mut [f64; 6],
     counts: &mut [u32; 5],
-) -> u32 {
+) -> Option<u32> {
     if word(w, 0) != SITE {
-        return NONE;
+        return None;
     }
     let n = word(w, 3);
     if 192 < n {
-        return NONE;
+        return None;
     }
     let end = n as usize;
     let m = word(w, end + 4);
     if 16 < m {
-        return NONE;
+        return None;
     }
     let last = m as usize;
     let given = given_in(w);
     let lens = lengths_in(w, end + 5);
-    exports_scene::bf_scene_new(
+    Some(exports_scene::bf_scene_new(
         float(w, 1),
         float(w, 2),
-        &given[0..end],
-        &lens[0..last],
+        &given[..end],
+        &lens[..last],
         points,
         boxes,
         polygons,
@@ -77,18 +71,10 @@ fn build(
         items,
         head,
         counts,
-    )
+    ))
 }
 
 // ---- the answer
-
-fn twice(n: u32) -> usize {
-    n as usize * 2
-}
-
-fn four_times(n: u32) -> usize {
-    n as usize * 4
-}
 
 // The points and the boxes, as far as the counts say, after the words of out.
 fn floats_told(
@@ -98,8 +84,8 @@ fn floats_told(
     points: &[f64],
     boxes: &[f64],
 ) -> usize {
-    let at = push_floats(&mut *out, from, points, twice(counts[3]));
-    push_floats(&mut *out, at, boxes, four_times(counts[2]))
+    let at = push_floats(&mut *out, from, points, 2 * counts[3] as usize);
+    push_floats(&mut *out, at, boxes, 4 * counts[2] as usize)
 }
 
 // The polygons, the owners, the starts, one more than there are cells, and the items.
@@ -113,16 +99,16 @@ fn numbers_told(
     starts: &[u32],
     items: &[u32],
 ) -> usize {
-    let mut at = push_list(&mut *out, from, polygons, twice(counts[2]));
-    at = push_list(&mut *out, at, owners, lists::wide(counts[3]));
+    let mut at = push_list(&mut *out, from, polygons, 2 * counts[2] as usize);
+    at = push_list(&mut *out, at, owners, counts[3] as usize);
     at = push_list(&mut *out, at, starts, cells);
-    at = push(&mut *out, at, wide(lists::at32(starts, cells)));
-    push_list(&mut *out, at, items, lists::wide(counts[4]))
+    at = push(&mut *out, at, u64::from(lists::at(starts, cells)));
+    push_list(&mut *out, at, items, counts[4] as usize)
 }
 
 // What building answered, as words; how many there are.
 fn told(
-    status: u32,
+    status: Option<u32>,
     head: &[f64; 6],
     counts: &[u32; 5],
     points: &[f64],
@@ -133,9 +119,9 @@ fn told(
     items: &[u32],
     out: &mut [u64],
 ) -> usize {
-    if status == NONE {
+    let Some(status) = status else {
         return 0;
-    }
+    };
     let at = results::head(&mut *out, status, head, counts);
     if 0 < status {
         return at;
@@ -183,7 +169,8 @@ fn answered(
 // Asks the site, line by line, up to the next site's line. The budget is far above any sample, so that the loop ends whatever is read.
 fn asked<R: Read>(
     reader: &mut R,
-    p: Place,
+    tally: Tally,
+    site: Line,
     head: &[f64; 6],
     counts: &[u32; 5],
     points: &[f64],
@@ -196,17 +183,18 @@ fn asked<R: Read>(
     words: &mut [u64],
     results: &mut [u64],
 ) -> Place {
-    let mut t = p.tally;
-    let mut line = p.line;
-    let mut left: u32 = 1000000;
-    while 0 < left {
-        left -= 1;
-        line = input::read_line(&mut *reader, &mut *chunk, line.at, line.len, &mut *words);
-        if line.end {
-            return Place { tally: t, line };
-        }
-        if word(words, 0) == SITE {
-            return Place { tally: t, line };
+    let mut t = tally;
+    let mut line = site;
+    for _ in 0..1000000 {
+        let next = input::read_line(&mut *reader, &mut *chunk, line.at, line.len, &mut *words);
+        match next {
+            Some(asking) if word(words, 0) != SITE => line = asking,
+            _ => {
+                return Place {
+                    tally: t,
+                    line: next,
+                };
+            }
         }
         t = answered(
             t,
@@ -225,15 +213,16 @@ fn asked<R: Read>(
     }
     Place {
         tally: t,
-        line: input::ended(),
+        line: None,
     }
 }
 
 // The line of a site that was built, or refused with this status, and then those that ask it.
 fn asked_of<R: Read>(
     reader: &mut R,
-    status: u32,
-    p: Place,
+    status: Option<u32>,
+    tally: Tally,
+    line: Line,
     head: &[f64; 6],
     counts: &[u32; 5],
     points: &[f64],
@@ -258,30 +247,19 @@ fn asked_of<R: Read>(
         items,
         &mut *results,
     );
-    let line = p.line;
     let ok = lines::same_tail(words, line.words, results, r);
-    let t = tally::with_site(tally::counted(p.tally, word(words, 0), ok));
+    let t = tally::with_site(tally::counted(tally, word(words, 0), ok));
     asked(
-        reader,
-        Place { tally: t, line },
-        head,
-        counts,
-        points,
-        boxes,
-        polygons,
-        owners,
-        starts,
-        items,
-        chunk,
-        words,
-        results,
+        reader, t, line, head, counts, points, boxes, polygons, owners, starts, items, chunk,
+        words, results,
     )
 }
 
 // A line of 601 and those that ask its site; what is counted then, and the next site's line.
 pub(crate) fn replayed<R: Read>(
     reader: &mut R,
-    p: Place,
+    tally: Tally,
+    line: Line,
     chunk: &mut [u8],
     words: &mut [u64],
     results: &mut [u64],
@@ -306,7 +284,7 @@ pub(crate) fn replayed<R: Read>(
         &mut counts,
     );
     asked_of(
-        reader, status, p, &head, &counts, &points, &boxes, &polygons, &owners, &starts, &items,
-        chunk, words, results,
+        reader, status, tally, line, &head, &counts, &points, &boxes, &polygons, &owners, &starts,
+        &items, chunk, words, results,
     )
 }

@@ -13,21 +13,13 @@ mod tally;
 
 use lines::input;
 use std::io;
-use tally::Tally;
-
-fn print(rt: &impl Print, text: &[u8]) -> io::Result<()> {
-    rt.write_all(text)
-}
+use tally::{Place, Tally};
 
 fn report(rt: &impl Print, t: Tally) -> io::Result<()> {
-    rt.print(t.lines)?;
-    print(rt, b" answers of ")?;
-    rt.print(t.functions)?;
-    print(rt, b" functions over ")?;
-    rt.print(t.sites)?;
-    print(rt, b" sites, ")?;
-    rt.print(t.differ)?;
-    print(rt, b" differ\n")
+    println!(rt;
+        "{} answers of {} functions over {} sites, {} differ",
+        t.lines, t.functions, t.sites, t.differ
+    )
 }
 
 // Site by site. The budget is far above any sample, so that the loop ends whatever is read.
@@ -37,18 +29,22 @@ fn main(rt: HostRuntime) -> io::Result<()> {
     let mut words = [0u64; 2048];
     let mut results = [0u64; 1536];
     let first = input::read_line(&mut stdin, &mut chunk, 0, 0, &mut words);
-    let mut at = tally::Place {
-        tally: tally::none(),
+    let mut at = Place {
+        tally: Tally::default(),
         line: first,
     };
-    let mut left: u32 = 1000000;
-    while 0 < left {
-        left -= 1;
-        if at.line.end {
-            left = 0;
-        } else {
-            at = current::replayed(&mut stdin, at, &mut chunk, &mut words, &mut results);
-        }
+    for _ in 0..1000000 {
+        let Some(line) = at.line else {
+            break;
+        };
+        at = current::replayed(
+            &mut stdin,
+            at.tally,
+            line,
+            &mut chunk,
+            &mut words,
+            &mut results,
+        );
     }
     report(&rt, at.tally)
 }

@@ -182,15 +182,13 @@ pub(crate) fn answer(
     w: &[u64],
     out: &mut [u64],
 ) -> usize {
-    if f == OUTLINE {
-        return answer_outline(
+    match f {
+        OUTLINE => answer_outline(
             head, counts, points, boxes, polygons, owners, starts, items, w, out,
-        );
-    }
-    if f == OUTLINE_IN_MODE {
-        return answer_in_mode(
+        ),
+        OUTLINE_IN_MODE => answer_in_mode(
             head, counts, points, boxes, polygons, owners, starts, items, w, out,
-        );
+        ),
+        _ => 0,
     }
-    0
 }

@@ -1,7 +1,7 @@
 // Questions to a site: 602 to 608, in the order of `scene.rs`, 609, the box query by points and polygons alone, and 703, a ray in a mode. The words after the number are
 // the arguments. There is room for 16 ids; over that is no answer.
 use crate::results;
-use lines::{float, narrow, push, wide, word};
+use lines::{float, narrow, push, word};
 
 // The room for ids that the program has.
 const IDS: u64 = 16;
@@ -62,7 +62,7 @@ fn answer_near(
         items,
         &b,
         narrow(w, 5),
-        &mut ids[0..room],
+        &mut ids[..room],
         out,
     )
 }
@@ -100,7 +100,7 @@ fn answer_near_plain(
     let room = k as usize;
     let b = [float(w, 1), float(w, 2), float(w, 3), float(w, 4)];
     let mut ids = [0u32; 16];
-    near_plain(head, counts, points, polygons, &b, &mut ids[0..room], out)
+    near_plain(head, counts, points, polygons, &b, &mut ids[..room], out)
 }
 
 // 603: a point.
@@ -233,13 +233,11 @@ fn ids_at(
     out: &mut [u64],
 ) -> usize {
     let mut at = from;
-    let mut i: usize = 0;
-    while i < n {
+    for i in 0..n {
         let id = exports_scene::bf_scene_item_at(
             head, counts, points, boxes, polygons, owners, starts, items, x, y, i,
         );
-        at = push(&mut *out, at, wide(id));
-        i += 1;
+        at = push(&mut *out, at, u64::from(id));
     }
     at
 }
@@ -276,7 +274,7 @@ fn answer_items(
     if IDS < number {
         return 0;
     }
-    let mut at = push(&mut *out, 0, wide(status));
+    let mut at = push(&mut *out, 0, u64::from(status));
     at = push(&mut *out, at, number);
     ids_at(
         head,
@@ -408,43 +406,29 @@ pub(crate) fn answer(
     w: &[u64],
     out: &mut [u64],
 ) -> usize {
-    if f == 602 {
-        return answer_near(
+    match f {
+        602 => answer_near(
             head, counts, points, boxes, polygons, owners, starts, items, w, out,
-        );
-    }
-    if f == 603 {
-        return answer_at(
+        ),
+        603 => answer_at(
             head, counts, points, boxes, polygons, owners, starts, items, w, out,
-        );
-    }
-    if f == 604 {
-        return answer_ray(
+        ),
+        604 => answer_ray(
             head, counts, points, boxes, polygons, owners, starts, items, w, out,
-        );
-    }
-    if f == 605 {
-        return answer_items(
+        ),
+        605 => answer_items(
             head, counts, points, boxes, polygons, owners, starts, items, w, out,
-        );
-    }
-    if f == 606 {
-        return answer_edge(
+        ),
+        606 => answer_edge(
             head, counts, points, boxes, polygons, owners, starts, items, w, out,
-        );
-    }
-    if f == 607 {
-        return answer_polygon(
+        ),
+        607 => answer_polygon(
             head, counts, points, boxes, polygons, owners, starts, items, w, out,
-        );
-    }
-    if f == 608 {
-        return answer_head(
+        ),
+        608 => answer_head(
             head, counts, points, boxes, polygons, owners, starts, items, out,
-        );
+        ),
+        609 => answer_near_plain(head, counts, points, polygons, w, out),
+        _ => 0,
     }
-    if f == 609 {
-        return answer_near_plain(head, counts, points, polygons, w, out);
-    }
-    0
 }

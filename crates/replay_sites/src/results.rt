@@ -1,21 +1,21 @@
 // Answers as the words of a line: statuses and numbers as they are, floats by their bit patterns. Each function says how many words there are then.
-use lines::{pattern, push, push_floats, push_list, wide};
+use lines::{pattern, push, push_floats, push_list};
 
 // A status and a float.
 pub(crate) fn one(out: &mut [u64], at: usize, status: u32, x: f64) -> usize {
-    let next = push(&mut *out, at, wide(status));
+    let next = push(&mut *out, at, u64::from(status));
     push(&mut *out, next, pattern(x))
 }
 
 // A status and two numbers.
 pub(crate) fn two(out: &mut [u64], at: usize, status: u32, v: &[u32; 2]) -> usize {
-    let next = push(&mut *out, at, wide(status));
+    let next = push(&mut *out, at, u64::from(status));
     push_list(&mut *out, next, v, 2)
 }
 
 // A status, ids written and entries read.
 fn counted(out: &mut [u64], status: u32, tally: &[u64; 2]) -> usize {
-    let mut at = push(&mut *out, 0, wide(status));
+    let mut at = push(&mut *out, 0, u64::from(status));
     at = push(&mut *out, at, tally[0]);
     push(&mut *out, at, tally[1])
 }
@@ -29,7 +29,7 @@ pub(crate) fn near(
     ids: &[u32],
 ) -> usize {
     let mut at = counted(&mut *out, status, tally);
-    at = push(&mut *out, at, wide(epoch));
+    at = push(&mut *out, at, u64::from(epoch));
     push_list(&mut *out, at, ids, ids.len())
 }
 
@@ -49,7 +49,7 @@ pub(crate) fn look(out: &mut [u64], status: u32, t: f64, found: &[u64; 3]) -> us
 
 // A head: six floats, five numbers.
 pub(crate) fn head(out: &mut [u64], status: u32, head: &[f64; 6], counts: &[u32; 5]) -> usize {
-    let mut at = push(&mut *out, 0, wide(status));
+    let mut at = push(&mut *out, 0, u64::from(status));
     at = push_floats(&mut *out, at, head, 6);
     push_list(&mut *out, at, counts, 5)
 }
@@ -64,8 +64,8 @@ pub(crate) fn edge(
 ) -> usize {
     let mut at = push_list(&mut *out, 0, &statuses, 3);
     at = push_floats(&mut *out, at, ends, 4);
-    at = push(&mut *out, at, wide(end));
-    push(&mut *out, at, wide(owner))
+    at = push(&mut *out, at, u64::from(end));
+    push(&mut *out, at, u64::from(owner))
 }
 
 // A polygon: first point, number of points, box.
@@ -116,14 +116,11 @@ pub(crate) fn outline(
     visible: &[u32],
 ) -> usize {
     let n = answer[2];
-    if 700 < n {
-        return 0;
-    }
     let ids = answer[3];
-    if 16 < ids {
+    if 700 < n || 16 < ids {
         return 0;
     }
-    let mut at = push(&mut *out, 0, wide(status));
+    let mut at = push(&mut *out, 0, u64::from(status));
     at = shape(&mut *out, at, answer);
     at = work(&mut *out, at, answer);
     at = push_floats(&mut *out, at, points, n as usize * 2);

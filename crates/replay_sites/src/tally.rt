@@ -3,7 +3,7 @@ use lines::input::Line;
 use lines::one_if_not;
 
 // The first site is asked in the order of the functions' numbers, so a number above all before is a new function.
-#[derive(Clone, Copy)]
+#[derive(Clone, Copy, Default)]
 pub struct Tally {
     pub lines: u64,
     pub functions: u64,
@@ -12,49 +12,28 @@ pub struct Tally {
     pub differ: u64,
 }
 
-// What was counted before a line, and that line.
+// What was counted before a line, and that line; none at the end of the input.
 #[derive(Clone, Copy)]
 pub struct Place {
     pub tally: Tally,
-    pub line: Line,
-}
-
-pub(crate) fn none() -> Tally {
-    Tally {
-        lines: 0,
-        functions: 0,
-        top: 0,
-        sites: 0,
-        differ: 0,
-    }
-}
-
-fn one_if_above(f: u64, top: u64) -> u64 {
-    if top < f { 1 } else { 0 }
-}
-
-fn higher(f: u64, top: u64) -> u64 {
-    if top < f { f } else { top }
+    pub line: Option<Line>,
 }
 
 // t with a line of the function f.
 pub(crate) fn counted(t: Tally, f: u64, ok: bool) -> Tally {
     Tally {
-        lines: std::num::wrapping_add_u64(t.lines, 1),
-        functions: std::num::wrapping_add_u64(t.functions, one_if_above(f, t.top)),
-        top: higher(f, t.top),
-        sites: t.sites,
-        differ: std::num::wrapping_add_u64(t.differ, one_if_not(ok)),
+        lines: t.lines.wrapping_add(1),
+        functions: t.functions.wrapping_add(u64::from(t.top < f)),
+        top: t.top.max(f),
+        differ: t.differ.wrapping_add(one_if_not(ok)),
+        ..t
     }
 }
 
 // t with a site more.
 pub(crate) fn with_site(t: Tally) -> Tally {
     Tally {
-        lines: t.lines,
-        functions: t.functions,
-        top: t.top,
-        sites: std::num::wrapping_add_u64(t.sites, 1),
-        differ: t.differ,
+        sites: t.sites.wrapping_add(1),
+        ..t
     }
 }

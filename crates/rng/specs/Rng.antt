@@ -5,8 +5,6 @@ use Rattle.std.specs.Prelude.{ℕ, ◌+◌, ◌-◌, ◌*◌, ◌/◌, ◌%◌, 
 use Rattle.std.specs.Float.{binary64}
 use Rattle.std.specs.Float.Ieee.{mul, div, of_int, of_bits}
 use Rattle.rng.specs.declared.Rng.{Rng}
-use Rattle.rng.specs.declared.Draw.{Draw}
-use Rattle.rng.specs.declared.Fraction.{Fraction}
 
 -- a generator seeded with s: the seed is its state
 abbrev pub new_of : ℕ → Rng
@@ -44,7 +42,11 @@ after g = new_of (stepped g.0)
 
 -- ---- the three draws: the generator left behind, and what was drawn
 
-unfoldable pub next_u64_of : Rng → Draw
+pub record Drawn (A : Type 0) : Type 0 where
+  pub rng : Rng
+  pub value : A
+
+unfoldable pub next_u64_of : Rng → Drawn ℕ
 unfolding after word_of
 next_u64_of g = record { rng = after g; value = word_of g }
 
@@ -57,11 +59,11 @@ unfoldable pub fraction_of : ℕ → Float
 unfolding mul div of_int of_bits
 fraction_of z = mul binary64 (of_int binary64 (pos (z / 2 ^ 11))) unit
 
-unfoldable pub next_f64_of : Rng → Fraction
+unfoldable pub next_f64_of : Rng → Drawn Float
 unfolding after word_of fraction_of
 next_f64_of g = record { rng = after g; value = fraction_of (word_of g) }
 
 -- lo and the high 64 bits of the word times the span; nothing is drawn from a span that is empty or turned
-unfoldable pub range_of : Rng → ℕ → ℕ → Draw
+unfoldable pub range_of : Rng → ℕ → ℕ → Drawn ℕ
 unfolding after word_of
 range_of g lo hi = cond (nat_le hi lo) (record { rng = g; value = lo }) (record { rng = after g; value = lo + word_of g * (hi - lo) / 2 ^ 64 })

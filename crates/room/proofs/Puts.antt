@@ -1,5 +1,6 @@
 -- What the writes of the room do, over plain lists: the entry is the record written, the other entries stay, and nothing but the list's own
 -- stretches is written. Assumes nothing.
+use Rattle.std.proofs.Common.{None, Option, Some}
 use mathlib.Core.Path.{◌≡◌, refl, ap, ◌∙◌}
 use mathlib.Core.Logic.{◌⊎◌, inl, inr, ⊎_elim}
 use mathlib.Core.Bool.{Bool, true, false}
@@ -15,8 +16,6 @@ use Rattle.lists.specs.Parts.{part}
 use Rattle.lists.proofs.Cases.{lt_or_le}
 use Rattle.lists.proofs.Only.{Laid, laid_put, laid_set, only_trans, only_wider, only_get_d}
 use Rattle.geom.specs.declared.Vec2.{Vec2}
-use Rattle.site.specs.declared.Cast.{Cast}
-use Rattle.site.specs.declared.Cast.TheVariants.{Hit, Miss}
 use Rattle.room.specs.declared.Rooms.{Rooms}
 use Rattle.room.specs.declared.LocalEdge.{LocalEdge}
 use Rattle.room.specs.declared.Event.{Event}
@@ -24,6 +23,7 @@ use Rattle.room.specs.declared.Merged.{Merged}
 use Rattle.room.specs.declared.Sample.{Sample}
 use Rattle.room.specs.Layout.{edges_f, events_f, merged_f, samples_f, distances_f, dirs_f, floats_for, edges_w, nearest_w, events_w, turns_w, merged_w, corners_w, samples_w, order_w}
 use Rattle.room.specs.Records.{six_of, tag_of, distance_of, number_of, cast_from, tie_of, edge_at, event_at, merged_at, sample_at, tie_at, dir_at, with_hit, EdgePut, EventPut, MergedPut, SamplePut, HitPut, DirPut}
+use Rattle.site.specs.declared.RayHit.{RayHit}
 
 -- a number and another one: below it or past it
 apart : (j i : ℕ) → (j ≡ i → ⊥) → (j < i) ⊎ (i < j)
@@ -33,15 +33,15 @@ bit_back : (b : Bool) → eqb (bit b) 1 ≡ b
 bit_back true = refl
 bit_back false = refl
 
-cast_back : (h : Cast) (tied : Bool) → cast_from (tag_of h tied) (distance_of h) (number_of h) ≡ h
-cast_back (Hit t e) true = refl
-cast_back (Hit t e) false = refl
-cast_back Miss tied = refl
+cast_back : (h : Option RayHit) (tied : Bool) → cast_from (tag_of h tied) (distance_of h) (number_of h) ≡ h
+cast_back (Some h) true = refl
+cast_back (Some h) false = refl
+cast_back None tied = refl
 
-tie_back : (h : Cast) (tied : Bool) → eqb (tag_of h tied) 2 ≡ tie_of h tied
-tie_back (Hit t e) true = refl
-tie_back (Hit t e) false = refl
-tie_back Miss tied = refl
+tie_back : (h : Option RayHit) (tied : Bool) → eqb (tag_of h tied) 2 ≡ tie_of h tied
+tie_back (Some h) true = refl
+tie_back (Some h) false = refl
+tie_back None tied = refl
 
 -- a number stored in a part that was lent, and a part that was lent and came back as a list
 module _ {A : Type 0} (l v : List A) where
@@ -180,7 +180,7 @@ module _ (k : Rooms) (i : ℕ) (f : List Float) (w : List ℕ) where
 
   -- ---- an answer of a sample: its distance, and its tag and edge
 
-  module _ (g : Cast) (tied : Bool) (f' : List Float) (w' : List ℕ) (h : i < k.samples) (p : Laid (distances_f k + i) 1 (distance_of g ∷ []) f f') (q : Laid (samples_w k + 4 * i + 2) 2 (tag_of g tied ∷ number_of g ∷ []) w w') where
+  module _ (g : Option RayHit) (tied : Bool) (f' : List Float) (w' : List ℕ) (h : i < k.samples) (p : Laid (distances_f k + i) 1 (distance_of g ∷ []) f f') (q : Laid (samples_w k + 4 * i + 2) 2 (tag_of g tied ∷ number_of g ∷ []) w w') where
     hit_here : sample_at k f' w' i ≡ with_hit (sample_at k f w i) g
     unfolding sample_at
     hit_here =

@@ -1,42 +1,42 @@
 -- What stands in the room: the records of `visibility.rs` (`Event`, `Sample`, `LocalEdge`, lines 213 to 244), each read from its numbers, and
 -- what a write of one does. A bool is 1 or 0. Document 01: "Each sample holds its angle, event, offset and that answer".
 -- Definitions only.
-use Rattle.std.specs.Prelude.{◌≡◌, Bool, false, cond, List, [], ◌∷◌, ℕ, ◌+◌, ◌*◌, ◌<◌, get_or, eqb, Float}
+use Rattle.std.specs.Prelude.{◌≡◌, Bool, false, cond, List, [], ◌∷◌, ℕ, ◌+◌, ◌*◌, ◌<◌, get_or, eqb, Float, None, Option, Some}
 use Rattle.std.specs.Float.{nan}
 use Rattle.num.specs.Ops.{◌⊕◌, zero_f}
 use Rattle.lists.specs.Lists.{listed}
 use Rattle.lists.specs.Parts.{Only, Stored}
 use Rattle.geom.specs.declared.Vec2.{Vec2}
 use Rattle.geom.specs.Vec.{vec, from_angle_of}
-use Rattle.site.specs.declared.Cast.{Cast}
-use Rattle.site.specs.declared.Cast.TheVariants.{Hit, Miss}
 use Rattle.room.specs.declared.Rooms.{Rooms}
 use Rattle.room.specs.declared.LocalEdge.{LocalEdge}
 use Rattle.room.specs.declared.Event.{Event}
 use Rattle.room.specs.declared.Merged.{Merged}
 use Rattle.room.specs.declared.Sample.{Sample}
 use Rattle.room.specs.Layout.{edges_f, events_f, merged_f, samples_f, distances_f, dirs_f, floats_for, edges_w, nearest_w, events_w, turns_w, merged_w, corners_w, samples_w, order_w}
+use Rattle.site.specs.Hits.{hit_at}
+use Rattle.site.specs.declared.RayHit.{RayHit}
 
 -- ---- an answer of a cast as three numbers: 1, or 2 where it was tied, the distance and the edge, or zeros for a miss
-abbrev pub tag_of : Cast → Bool → ℕ
-tag_of (Hit t e) tied = cond tied 2 1
-tag_of Miss tied = 0
+abbrev pub tag_of : Option RayHit → Bool → ℕ
+tag_of (Some h) tied = cond tied 2 1
+tag_of None tied = 0
 
-abbrev pub distance_of : Cast → Float
-distance_of (Hit t e) = t
-distance_of Miss = zero_f
+abbrev pub distance_of : Option RayHit → Float
+distance_of (Some h) = h.t
+distance_of None = zero_f
 
-abbrev pub number_of : Cast → ℕ
-number_of (Hit t e) = e
-number_of Miss = 0
+abbrev pub number_of : Option RayHit → ℕ
+number_of (Some h) = h.edge
+number_of None = 0
 
-abbrev pub cast_from : ℕ → Float → ℕ → Cast
-cast_from tag t e = cond (eqb tag 0) Miss (Hit t e)
+abbrev pub cast_from : ℕ → Float → ℕ → Option RayHit
+cast_from tag t e = cond (eqb tag 0) None (hit_at t e)
 
 -- the tie that is noted: a miss has none
-abbrev pub tie_of : Cast → Bool → Bool
-tie_of (Hit t e) tied = tied
-tie_of Miss tied = false
+abbrev pub tie_of : Option RayHit → Bool → Bool
+tie_of (Some h) tied = tied
+tie_of None tied = false
 
 -- ---- the records
 -- an edge's own numbers, in their order
@@ -133,10 +133,10 @@ abbrev pub SamplePut : Rooms → ℕ → Sample → List Float → List ℕ → 
 SamplePut k i s f w f' w' = Put (sample_at k f w) (sample_at k f' w') k.samples i s (samples_f k) (dirs_f k) f f' (samples_w k) (order_w k) w w'
 
 -- the sample with another answer: its angle, event and offset stay, and so does the stretch of the samples' angles
-abbrev pub with_hit : Sample → Cast → Sample
+abbrev pub with_hit : Sample → Option RayHit → Sample
 with_hit s h = record { angle = s.angle; event = s.event; offset = s.offset; hit = h }
 
-pub record HitPut (k : Rooms) (i : ℕ) (h : Cast) (tied : Bool) (f : List Float) (w : List ℕ) (f' : List Float) (w' : List ℕ) : Type 0 where
+pub record HitPut (k : Rooms) (i : ℕ) (h : Option RayHit) (tied : Bool) (f : List Float) (w : List ℕ) (f' : List Float) (w' : List ℕ) : Type 0 where
   pub put : Put (sample_at k f w) (sample_at k f' w') k.samples i (with_hit (sample_at k f w i) h) (distances_f k) (dirs_f k) f f' (samples_w k) (order_w k) w w'
   pub tie : Stored (tie_at k w) (tie_at k w') k.samples i (tie_of h tied)
 

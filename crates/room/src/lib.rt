@@ -6,13 +6,12 @@
 // Meanings: specs/Layout.antt (where the lists stand), specs/Records.antt (what stands there).
 #![tactic(auto)]
 
-ghost use Rattle.std.specs.Prelude.{◌≡◌, [], ◌∷◌, ◌≤◌, ◌<◌, length};
-ghost use Rattle.lists.specs.Lists.{bit};
+ghost use Rattle.std.specs.Prelude.{◌≡◌, ◌≤◌, ◌<◌, length};
 ghost use Rattle.room.specs.Layout.{edges_f, events_f, merged_f, samples_f, distances_f, dirs_f, floats_for, edges_w, nearest_w, events_w, turns_w, merged_w, corners_w, starts_w, refs_w, samples_w, order_w, seen_w, words_for, is_short, Place};
-ghost use Rattle.room.specs.Records.{six_of, tag_of, distance_of, number_of, cast_from, edge_at, event_at, merged_at, sample_at, dir_at, tie_at, EdgePut, EventPut, MergedPut, SamplePut, HitPut, DirPut};
+ghost use Rattle.room.specs.Records.{tag_of, distance_of, number_of, cast_from, edge_at, event_at, merged_at, sample_at, dir_at, tie_at, EdgePut, EventPut, MergedPut, SamplePut, HitPut, DirPut};
 
 use geom::Vec2;
-use site::Cast;
+use site::RayHit;
 
 // How many entries the caller allows to each list: ids of the box query, front edges, unmerged events, kept-aside corners, samples, bucket
 // starts, angular references, owners, and corners seen at one event.
@@ -29,7 +28,7 @@ pub struct Rooms {
     pub seen: u32,
 }
 
-// The vertex of an event that has none.
+// The vertex of an event that has none. A number and no `Option`, as it is a word of the lent room.
 pub const NO_VERTEX: u32 = 4294967295;
 
 // How far off its event a ray is.
@@ -71,7 +70,7 @@ pub struct Sample {
     pub angle: f64,
     pub event: u32,
     pub offset: u32,
-    pub hit: Cast,
+    pub hit: Option<RayHit>,
 }
 
 // ---- where the lists stand in the floats
@@ -220,45 +219,41 @@ pub fn is_short(k: Rooms, floats: usize, words: usize) -> bool
 
 // ---- an answer of a cast as three numbers: 1, or 2 where it was tied, and the distance and the edge, or zeros for a miss
 
-fn tag_of(h: Cast, tied: bool) -> u32
+fn tag_of(h: Option<RayHit>, tied: bool) -> u32
     ensures { result ≡ tag_of h tied }
 {
     match h {
-        Cast::Hit(_, _) => {
-            if tied {
-                return 2;
-            }
-            1
-        }
-        Cast::Miss => 0,
+        Some(_) if tied => 2,
+        Some(_) => 1,
+        None => 0,
     }
 }
 
-fn distance_of(h: Cast) -> f64
+fn distance_of(h: Option<RayHit>) -> f64
     ensures { result ≡ distance_of h }
 {
     match h {
-        Cast::Hit(t, _) => t,
-        Cast::Miss => 0.0,
+        Some(h) => h.t,
+        None => 0.0,
     }
 }
 
-fn number_of(h: Cast) -> u32
+fn number_of(h: Option<RayHit>) -> u32
     ensures { result ≡ number_of h }
 {
     match h {
-        Cast::Hit(_, e) => e,
-        Cast::Miss => 0,
+        Some(h) => h.edge,
+        None => 0,
     }
 }
 
-fn cast_from(tag: u32, t: f64, e: u32) -> Cast
-    ensures { result ≡ cast_from tag t e }
+fn cast_from(tag: u32, t: f64, edge: u32) -> Option<RayHit>
+    ensures { result ≡ cast_from tag t edge }
 {
-    if tag == 0 {
-        return Cast::Miss;
+    match tag {
+        0 => None,
+        _ => Some(RayHit { t, edge }),
     }
-    Cast::Hit(t, e)
 }
 
 // ---- reading
@@ -267,21 +262,21 @@ fn cast_from(tag: u32, t: f64, e: u32) -> Cast
 pub fn edge_at(k: Rooms, floats: &[f64], words: &[u32], i: u32) -> LocalEdge
     ensures { result ≡ edge_at k floats.now words.now i }
 {
-    let n = lists::wide(i);
+    let n = i as usize;
     let at = edges_f(k) + 6 * n;
     LocalEdge {
         a: Vec2 {
-            x: lists::at64(floats, at),
-            y: lists::at64(floats, at + 1),
+            x: lists::at(floats, at),
+            y: lists::at(floats, at + 1),
         },
         b: Vec2 {
-            x: lists::at64(floats, at + 2),
-            y: lists::at64(floats, at + 3),
+            x: lists::at(floats, at + 2),
+            y: lists::at(floats, at + 3),
         },
-        near: lists::at64(floats, n),
-        edge: lists::at32(words, edges_w(k) + n),
-        span_start: lists::at64(floats, at + 4),
-        span_len: lists::at64(floats, at + 5),
+        near: lists::at(floats, n),
+        edge: lists::at(words, edges_w(k) + n),
+        span_start: lists::at(floats, at + 4),
+        span_len: lists::at(floats, at + 5),
     }
 }
 
@@ -289,12 +284,12 @@ pub fn edge_at(k: Rooms, floats: &[f64], words: &[u32], i: u32) -> LocalEdge
 pub fn event_at(k: Rooms, floats: &[f64], words: &[u32], i: u32) -> Event
     ensures { result ≡ event_at k floats.now words.now i }
 {
-    let n = lists::wide(i);
+    let n = i as usize;
     let at = events_w(k) + 2 * n;
     Event {
-        angle: lists::at64(floats, events_f(k) + n),
-        vertex: lists::at32(words, at),
-        side: lists::at32(words, at + 1) == 1,
+        angle: lists::at(floats, events_f(k) + n),
+        vertex: lists::at(words, at),
+        side: lists::at(words, at + 1) == 1,
     }
 }
 
@@ -302,13 +297,13 @@ pub fn event_at(k: Rooms, floats: &[f64], words: &[u32], i: u32) -> Event
 pub fn merged_at(k: Rooms, floats: &[f64], words: &[u32], i: u32) -> Merged
     ensures { result ≡ merged_at k floats.now words.now i }
 {
-    let n = lists::wide(i);
+    let n = i as usize;
     let at = merged_w(k) + 3 * n;
     Merged {
-        angle: lists::at64(floats, merged_f(k) + n),
-        vertex: lists::at32(words, at),
-        side: lists::at32(words, at + 1) == 1,
-        end: lists::at32(words, at + 2),
+        angle: lists::at(floats, merged_f(k) + n),
+        vertex: lists::at(words, at),
+        side: lists::at(words, at + 1) == 1,
+        end: lists::at(words, at + 2),
     }
 }
 
@@ -316,17 +311,17 @@ pub fn merged_at(k: Rooms, floats: &[f64], words: &[u32], i: u32) -> Merged
 pub fn sample_at(k: Rooms, floats: &[f64], words: &[u32], i: u32) -> Sample
     ensures { result ≡ sample_at k floats.now words.now i }
 {
-    let n = lists::wide(i);
+    let n = i as usize;
     let at = samples_w(k) + 4 * n;
     let hit = cast_from(
-        lists::at32(words, at + 2),
-        lists::at64(floats, distances_f(k) + n),
-        lists::at32(words, at + 3),
+        lists::at(words, at + 2),
+        lists::at(floats, distances_f(k) + n),
+        lists::at(words, at + 3),
     );
     Sample {
-        angle: lists::at64(floats, samples_f(k) + n),
-        event: lists::at32(words, at),
-        offset: lists::at32(words, at + 1),
+        angle: lists::at(floats, samples_f(k) + n),
+        event: lists::at(words, at),
+        offset: lists::at(words, at + 1),
         hit,
     }
 }
@@ -335,93 +330,37 @@ pub fn sample_at(k: Rooms, floats: &[f64], words: &[u32], i: u32) -> Sample
 pub fn tie_at(k: Rooms, words: &[u32], i: u32) -> bool
     ensures { result ≡ tie_at k words.now i }
 {
-    let at = samples_w(k) + 4 * lists::wide(i);
-    lists::at32(words, at + 2) == 2
+    let at = samples_w(k) + 4 * i as usize;
+    lists::at(words, at + 2) == 2
 }
 
 // The direction of the sample i.
 pub fn dir_at(k: Rooms, floats: &[f64], i: u32) -> Vec2
     ensures { result ≡ dir_at k floats.now i }
 {
-    let at = dirs_f(k) + 2 * lists::wide(i);
+    let at = dirs_f(k) + 2 * i as usize;
     Vec2 {
-        x: lists::at64(floats, at),
-        y: lists::at64(floats, at + 1),
+        x: lists::at(floats, at),
+        y: lists::at(floats, at + 1),
     }
 }
 
 // ---- writing: each entry into its own part of the room
-
-// A bool as a number.
-fn bit(b: bool) -> u32
-    ensures { result ≡ bit b }
-{
-    b as u32
-}
-
-fn put_two(s: &mut [u32], a: u32, b: u32)
-    requires { length s.old ≡ 2 }
-    ensures { s.new ≡ a ∷ b ∷ [] }
-{
-    s[0] = a;
-    s[1] = b;
-}
-
-fn put_three(s: &mut [u32], a: u32, b: u32, c: u32)
-    requires { length s.old ≡ 3 }
-    ensures { s.new ≡ a ∷ b ∷ c ∷ [] }
-{
-    s[0] = a;
-    s[1] = b;
-    s[2] = c;
-}
-
-fn put_four(s: &mut [u32], a: u32, b: u32, c: u32, d: u32)
-    requires { length s.old ≡ 4 }
-    ensures { s.new ≡ a ∷ b ∷ c ∷ d ∷ [] }
-{
-    s[0] = a;
-    s[1] = b;
-    s[2] = c;
-    s[3] = d;
-}
-
-// A direction's own numbers.
-fn put_pair(s: &mut [f64], d: Vec2)
-    requires { length s.old ≡ 2 }
-    ensures { s.new ≡ d.x ∷ d.y ∷ [] }
-{
-    s[0] = d.x;
-    s[1] = d.y;
-}
-
-// An edge's own numbers: its ends and its span.
-fn put_six(s: &mut [f64], e: LocalEdge)
-    requires { length s.old ≡ 6 }
-    ensures { s.new ≡ six_of e }
-{
-    s[0] = e.a.x;
-    s[1] = e.a.y;
-    s[2] = e.b.x;
-    s[3] = e.b.y;
-    s[4] = e.span_start;
-    s[5] = e.span_len;
-}
 
 // Makes e the edge i.
 pub fn put_edge(k: Rooms, floats: &mut [f64], words: &mut [u32], i: u32, e: LocalEdge)
     requires { Place k (length floats.old) (length words.old) k.edges i }
     ensures { EdgePut k i e floats.old words.old floats.new words.new }
 {
-    let n = lists::wide(i);
+    let n = i as usize;
     let own = edges_f(k);
-    lists::put64(&mut floats[0..own], n, e.near);
+    lists::put(&mut floats[0..own], n, e.near);
     let at = own + 6 * n;
-    let end = at + 6;
-    put_six(&mut floats[at..end], e);
+    // its own numbers: the ends and the span
+    floats[at..at + 6].copy_from_slice(&[e.a.x, e.a.y, e.b.x, e.b.y, e.span_start, e.span_len]);
     let from = edges_w(k);
     let to = nearest_w(k);
-    lists::put32(&mut words[from..to], n, e.edge);
+    lists::put(&mut words[from..to], n, e.edge);
 }
 
 // Makes e the event i.
@@ -429,13 +368,12 @@ pub fn put_event(k: Rooms, floats: &mut [f64], words: &mut [u32], i: u32, e: Eve
     requires { Place k (length floats.old) (length words.old) k.events i }
     ensures { EventPut k i e floats.old words.old floats.new words.new }
 {
-    let n = lists::wide(i);
+    let n = i as usize;
     let from = events_f(k);
     let to = merged_f(k);
-    lists::put64(&mut floats[from..to], n, e.angle);
+    lists::put(&mut floats[from..to], n, e.angle);
     let at = events_w(k) + 2 * n;
-    let end = at + 2;
-    put_two(&mut words[at..end], e.vertex, bit(e.side));
+    words[at..at + 2].copy_from_slice(&[e.vertex, e.side as u32]);
 }
 
 // Makes e the merged event i.
@@ -443,13 +381,12 @@ pub fn put_merged(k: Rooms, floats: &mut [f64], words: &mut [u32], i: u32, e: Me
     requires { Place k (length floats.old) (length words.old) k.events i }
     ensures { MergedPut k i e floats.old words.old floats.new words.new }
 {
-    let n = lists::wide(i);
+    let n = i as usize;
     let from = merged_f(k);
     let to = samples_f(k);
-    lists::put64(&mut floats[from..to], n, e.angle);
+    lists::put(&mut floats[from..to], n, e.angle);
     let at = merged_w(k) + 3 * n;
-    let end = at + 3;
-    put_three(&mut words[at..end], e.vertex, bit(e.side), e.end);
+    words[at..at + 3].copy_from_slice(&[e.vertex, e.side as u32, e.end]);
 }
 
 // Makes s the sample i.
@@ -458,35 +395,34 @@ pub fn put_sample(k: Rooms, floats: &mut [f64], words: &mut [u32], i: u32, s: Sa
     ensures { SamplePut k i s floats.old words.old floats.new words.new }
 {
     let h = s.hit;
-    let n = lists::wide(i);
+    let n = i as usize;
     let from = samples_f(k);
     let mid = distances_f(k);
     let to = dirs_f(k);
-    lists::put64(&mut floats[from..mid], n, s.angle);
-    lists::put64(&mut floats[mid..to], n, distance_of(h));
+    lists::put(&mut floats[from..mid], n, s.angle);
+    lists::put(&mut floats[mid..to], n, distance_of(h));
     let at = samples_w(k) + 4 * n;
-    let end = at + 4;
-    put_four(
-        &mut words[at..end],
-        s.event,
-        s.offset,
-        tag_of(h, false),
-        number_of(h),
-    );
+    words[at..at + 4].copy_from_slice(&[s.event, s.offset, tag_of(h, false), number_of(h)]);
 }
 
 // Makes h the answer of the sample i, with a note whether it was tied, and leaves its angle, event and offset.
-pub fn put_hit(k: Rooms, floats: &mut [f64], words: &mut [u32], i: u32, h: Cast, tied: bool)
+pub fn put_hit(
+    k: Rooms,
+    floats: &mut [f64],
+    words: &mut [u32],
+    i: u32,
+    h: Option<RayHit>,
+    tied: bool,
+)
     requires { Place k (length floats.old) (length words.old) k.samples i }
     ensures { HitPut k i h tied floats.old words.old floats.new words.new }
 {
-    let n = lists::wide(i);
+    let n = i as usize;
     let mid = distances_f(k);
     let to = dirs_f(k);
-    lists::put64(&mut floats[mid..to], n, distance_of(h));
+    lists::put(&mut floats[mid..to], n, distance_of(h));
     let at = samples_w(k) + 4 * n + 2;
-    let end = at + 2;
-    put_two(&mut words[at..end], tag_of(h, tied), number_of(h));
+    words[at..at + 2].copy_from_slice(&[tag_of(h, tied), number_of(h)]);
 }
 
 // Makes d the direction of the sample i.
@@ -494,7 +430,6 @@ pub fn put_dir(k: Rooms, floats: &mut [f64], i: u32, d: Vec2)
     requires { (floats_for k ≤ length floats.old) × (i < k.samples) }
     ensures { DirPut k i d floats.old floats.new }
 {
-    let at = dirs_f(k) + 2 * lists::wide(i);
-    let end = at + 2;
-    put_pair(&mut floats[at..end], d);
+    let at = dirs_f(k) + 2 * i as usize;
+    floats[at..at + 2].copy_from_slice(&[d.x, d.y]);
 }

@@ -1,5 +1,6 @@
 -- THE CLAIM OF THE SAMPLES: the table of specs/Samples.antt has the rows that document 01 says, from any generator. Assumes nothing.
 -- The two sites with squares are written out first, table by table, and shown to be what building makes: then each question is computed over them.
+use Rattle.std.proofs.Common.{Option, Some, Ok}
 use mathlib.Core.Path.{◌≡◌, refl, ap}
 use mathlib.Core.Bool.{true, false, xor}
 use mathlib.Core.List.{List, [], ◌∷◌, ◌++◌, map}
@@ -20,8 +21,6 @@ use Rattle.rng.specs.declared.Rng.{Rng}
 use Rattle.rng.specs.Rng as rng
 use Rattle.bounds.specs.Domain.{in_domain, in_size}
 use Rattle.grid.specs.declared.Grid.{Grid}
-use Rattle.grid.specs.declared.Range.{Range}
-use Rattle.grid.specs.declared.Range.TheVariants.{Cells}
 use Rattle.grid.specs.Range.{count_f, columns_of, cell_at, cell_index, range_by, range_of}
 use Rattle.grid.specs.Boxes.{box_from, box_at}
 use Rattle.grid.specs.Stamps.{stamped, firsts}
@@ -41,17 +40,17 @@ use Rattle.sight.specs.Slabs.{ray_hits_aabb_of}
 use Rattle.sight.specs.Holding as holding
 use Rattle.sight.specs.Casting as casting
 use Rattle.scene.specs.Asked.{asked, ray_in_domain}
-use Rattle.scene.specs.Answers.{found_from, polygon_at_of, cast_ray_of}
+use Rattle.scene.specs.Answers.{polygon_at_of, cast_ray_of}
 use Rattle.scene.specs.Stamping.{polygons_near_of}
-use Rattle.build.specs.declared.Made.TheVariants as made
 use Rattle.build.specs.Stored.{given_at, is_reversed, ordered_at, stored_at, stored_of, stored_box, stored_boxes, points_of, boxes_table, polygons_table, owners_table, grid_by, bounds_in, cell_in, grid_of, span_in}
 use Rattle.build.specs.Refusals.{points_in, too_many, adds_up, numbers_in, all_inside, few_cells, item_count, has_room}
 use Rattle.build.specs.Outcome.{Outcome, site_of, plan_by, plan_of, tables_of, outcome_by, rooms_of, outcome}
 use Rattle.build.proofs.Spans.{items_ext, starts_ext}
 use Rattle.samples.specs.Samples.{lent, built, square, site_a, twice, bare, clockwise, of, rows_by, table, expected}
+use Rattle.grid.specs.declared.CellRange.{CellRange}
 
 -- ---- building, where every polygon covers the same cells
-module _ (w h : Float) (given : List Float) (lens : List ℕ) (room : Tables) (g : Grid) (span : Range)
+module _ (w h : Float) (given : List Float) (lens : List ℕ) (room : Tables) (g : Grid) (span : Option CellRange)
     (grid_is : grid_of w h given lens ≡ g) (spans : (k : ℕ) → k < length lens → span_in g given lens k ≡ span) where
   abbrev items : List ℕ
   items = tabled.items_of (λ _. span) (length lens) g.cols (g.cols * g.rows)
@@ -82,7 +81,7 @@ module _ (w h : Float) (given : List Float) (lens : List ℕ) (room : Tables) (g
 
   outcome_is : too_many given lens ≡ false → adds_up given lens ≡ true → all_inside w h given ≡ true → few_cells g.cols g.rows ≡ true
       → has_room (rooms_of room) (length lens) (points_in given) (g.cols * g.rows) (length items) ≡ true
-      → outcome w h given lens room ≡ record { answer = made.Site site; left = filled }
+      → outcome w h given lens room ≡ record { answer = Ok site; left = filled }
   unfolding outcome outcome_by plan_of plan_by site_of
   outcome_is a b c d e = rw (a, b, c, grid_is, d, count_is, e, filled_is)
 
@@ -91,8 +90,8 @@ module _ (w h : Float) (given : List Float) (lens : List ℕ) (room : Tables) (g
 abbrev grid_a : Grid
 grid_a = record { origin = vec zero_f zero_f; cell = count_f 2; inv_cell = of_bits binary64 0x3fe0_0000_0000_0000; cols = 6; rows = 6 }
 
-abbrev span : Range
-span = Cells (record { c0 = 1; r0 = 1; c1 = 2; r1 = 2 })
+abbrev span : Option CellRange
+span = Some (record { c0 = 1; r0 = 1; c1 = 2; r1 = 2 })
 
 -- n in each of the cells 7, 8, 13 and 14
 abbrev starts_by : ℕ → List ℕ
@@ -103,7 +102,7 @@ site_by n = record { width = count_f 10; height = count_f 10; grid = grid_a; pol
 
 abbrev written_a : Outcome
 written_a = record {
-  answer = made.Site (site_by 1);
+  answer = Ok (site_by 1);
   left =
       tables (map count_f square ++ replicate 8 zero_f) (map count_f (2 ∷ 2 ∷ 4 ∷ 4 ∷ []) ++ replicate 4 zero_f) (0 ∷ 4 ∷ 0 ∷ 0 ∷ []) (replicate 8 0) (starts_by 1)
       (replicate 8 0);
@@ -111,7 +110,7 @@ written_a = record {
 
 abbrev written_twice : Outcome
 written_twice = record {
-  answer = made.Site (site_by 2);
+  answer = Ok (site_by 2);
   left =
       tables (map count_f (square ++ square)) (map count_f (2 ∷ 2 ∷ 4 ∷ 4 ∷ 2 ∷ 2 ∷ 4 ∷ 4 ∷ [])) (0 ∷ 4 ∷ 4 ∷ 4 ∷ []) (replicate 4 0 ++ replicate 4 1) (starts_by 2)
       (0 ∷ 1 ∷ 0 ∷ 1 ∷ 0 ∷ 1 ∷ 0 ∷ 1 ∷ []);
@@ -168,7 +167,7 @@ unfolding
     clip_of clip_box_of index_of axis_of set_out_of ray_start cell_number exit_of moved_to step_of left tour_in tour ray_tour
     ray_hits_aabb_of holding.holds_point holding.higher_of holding.highest holding.polygon_at_of
     casting.edge_number casting.nearer_of casting.edges_up_to casting.edges_met casting.pushed casting.item_seen casting.items_seen casting.sighting_of casting.cast_ray_of
-    asked ray_in_domain found_from polygon_at_of cast_ray_of polygons_near_of
+    asked ray_in_domain polygon_at_of cast_ray_of polygons_near_of
 rows_are g = refl
 
 -- THE CLAIM

@@ -2,9 +2,11 @@
 -- the entry points, tests and refusals included, so each row is what the calls of `build`, `scene` and `rng` answer (P6's area: `geom`). The one claim, that
 -- `table` is `expected`, is proofs/SamplesHold.antt. Definitions only.
 -- A row that comes from a call starts with 0, or is the refusal's number alone. A float stands as its bit pattern.
-use Rattle.std.specs.Prelude.{true, false, List, [], ◌∷◌, ◌++◌, map, ℕ, replicate, take, Float}
+use Rattle.std.specs.Prelude.{true, false, List, [], ◌∷◌, ◌++◌, map, ℕ, replicate, take, Float, Err, Result, Ok, None, Option, Some}
 use Rattle.std.specs.Float.{binary64}
 use Rattle.std.specs.Float.Ieee.{to_bits, round}
+use Rattle.refusal.specs.declared.Refusal.{Refusal}
+use Rattle.refusal.specs.Numbers.{number_of}
 use Rattle.num.specs.Ops.{zero_f, one_f}
 use Rattle.geom.specs.Vec.{vec}
 use Rattle.geom.specs.Box.{box}
@@ -12,21 +14,14 @@ use Rattle.geom.specs.Ring.{signed_area_of}
 use Rattle.rng.specs.declared.Rng.{Rng}
 use Rattle.rng.specs.Rng as rng
 use Rattle.grid.specs.declared.Listing.{Listing}
-use Rattle.grid.specs.declared.Listing.TheVariants as listing
 use Rattle.grid.specs.Range.{count_f}
 use Rattle.grid.specs.Query as query
 use Rattle.site.specs.declared.Site.{Site}
-use Rattle.site.specs.declared.Cast.{Cast}
-use Rattle.site.specs.declared.Cast.TheVariants as cast
+use Rattle.site.specs.declared.RayHit.{RayHit}
 use Rattle.site.specs.Tables.{Tables, tables}
-use Rattle.scene.specs.declared.Found.{Found}
-use Rattle.scene.specs.declared.Found.TheVariants as found
-use Rattle.scene.specs.declared.Look.{Look}
-use Rattle.scene.specs.declared.Look.TheVariants as look
+use Rattle.sight.specs.declared.Sighting.{Sighting}
 use Rattle.scene.specs.Answers.{polygon_at_of, cast_ray_of}
 use Rattle.scene.specs.Stamping.{polygons_near_of}
-use Rattle.build.specs.declared.Made.{Made}
-use Rattle.build.specs.declared.Made.TheVariants as made
 use Rattle.build.specs.Outcome.{Outcome, outcome}
 
 -- ---- numbers
@@ -73,9 +68,9 @@ clockwise = 0 ∷ 0 ∷ 0 ∷ 2 ∷ 2 ∷ 2 ∷ 2 ∷ 0 ∷ []
 
 -- ---- what a call answers, as a row
 -- what is asked of a site and its tables, unless building refused
-abbrev pub made_row : (Site → Tables → List ℕ) → Tables → Made → List ℕ
-made_row ask t (made.Refused n) = n ∷ []
-made_row ask t (made.Site s) = ask s t
+abbrev pub made_row : (Site → Tables → List ℕ) → Tables → Result Site Refusal → List ℕ
+made_row ask t (Err r) = number_of r ∷ []
+made_row ask t (Ok s) = ask s t
 
 unfoldable pub of : Outcome → (Site → Tables → List ℕ) → List ℕ
 of o ask = made_row ask o.left o.answer
@@ -89,9 +84,9 @@ abbrev pub stored : Site → Tables → List ℕ
 stored s t = 0 ∷ map (to_bits binary64) (take 8 t.points)
 
 -- a box query: 0, the entries read, the epoch after it, and the ids listed
-abbrev pub listing_row : query.Outcome → Listing → List ℕ
-listing_row o (listing.Refused n) = n ∷ []
-listing_row o (listing.Listed written read) = 0 ∷ read ∷ o.epoch ∷ take written o.ids
+abbrev pub listing_row : query.Outcome → Result Listing Refusal → List ℕ
+listing_row o (Err r) = number_of r ∷ []
+listing_row o (Ok l) = 0 ∷ l.read ∷ o.epoch ∷ take l.written o.ids
 
 -- the query of the box from (a, b) to (c, d), with these marks and this epoch, in room for two ids
 abbrev pub near : ℕ → ℕ → ℕ → ℕ → List ℕ → ℕ → Site → Tables → List ℕ
@@ -100,22 +95,22 @@ near a b c d marks epoch s t =
     listing_row o o.answer
 
 -- the polygon at a point: 0 and its id, or 0 alone
-abbrev pub found_row : Found → List ℕ
-found_row (found.Refused n) = n ∷ []
-found_row (found.Id k) = 0 ∷ k ∷ []
-found_row found.Nobody = 0 ∷ []
+abbrev pub found_row : Result (Option ℕ) Refusal → List ℕ
+found_row (Err r) = number_of r ∷ []
+found_row (Ok (Some k)) = 0 ∷ k ∷ []
+found_row (Ok None) = 0 ∷ []
 
 abbrev pub at : ℕ → ℕ → Site → Tables → List ℕ
 at x y s t = found_row (polygon_at_of s t (vec (count_f x) (count_f y)))
 
 -- a ray: 0, the cells entered, and, unless it is a miss, the edge and the distance
-abbrev pub cast_row : Cast → List ℕ
-cast_row (cast.Hit t e) = e ∷ to_bits binary64 t ∷ []
-cast_row cast.Miss = []
+abbrev pub cast_row : Option RayHit → List ℕ
+cast_row (Some h) = h.edge ∷ to_bits binary64 h.t ∷ []
+cast_row None = []
 
-abbrev pub look_row : Look → List ℕ
-look_row (look.Refused n) = n ∷ []
-look_row (look.Seen hit cells) = 0 ∷ cells ∷ cast_row hit
+abbrev pub look_row : Result Sighting Refusal → List ℕ
+look_row (Err r) = number_of r ∷ []
+look_row (Ok s) = 0 ∷ s.cells ∷ cast_row s.hit
 
 -- the ray from (x, y) along (1, 0), length 100, in mode 0
 abbrev pub ray : Float → Float → Site → Tables → List ℕ

@@ -2,87 +2,55 @@
 // What it prints is compared with the file `stdout` beside src/. That P1 to P10 are so is also proved: specs/Samples.antt and proofs/SamplesHold.antt.
 #![tactic(auto)]
 
-use build::Made;
 use cone::ViewCone;
 use geom::{Aabb, Vec2};
-use grid::Listing;
+use refusal::Refusal;
 use rng::Rng;
 use room::Rooms;
-use scene::{Found, Look};
-use site::{Cast, Site};
-use stages::{Shown, Visibility};
-use std::io;
+use scene::Scene;
+use site::{RayHit, Site, SiteTables};
+use stages::Shown;
+use std::{fmt, io};
 
 // ---- printing
 
-fn print(rt: &impl Print, text: &[u8]) -> io::Result<()> {
-    rt.write_all(text)
-}
+// A float with one decimal, cut off.
+#[derive(Clone, Copy)]
+struct Tenths(f64);
 
-fn print_number(rt: &impl Print, text: &[u8], n: u64) -> io::Result<()> {
-    print(rt, text)?;
-    rt.print(n)
-}
-
-fn print_u32(rt: &impl Print, text: &[u8], n: u32) -> io::Result<()> {
-    print_number(rt, text, n as u64)
-}
-
-fn print_size(rt: &impl Print, text: &[u8], n: usize) -> io::Result<()> {
-    print_number(rt, text, n as u64)
-}
-
-// x from 0 up, with one decimal, cut off.
-fn print_tenths(rt: &impl Print, x: f64) -> io::Result<()> {
-    let n = num::to_u64(x * 10.0);
-    print_number(rt, b"", n / 10)?;
-    print_number(rt, b".", n % 10)
-}
-
-fn print_float(rt: &impl Print, text: &[u8], x: f64) -> io::Result<()> {
-    print(rt, text)?;
-    if x < 0.0 {
-        print(rt, b"-")?;
-        return print_tenths(rt, 0.0 - x);
+impl fmt::Display for Tenths {
+    fn fmt<W: fmt::Write>(&self, f: &mut fmt::Formatter<W>) -> fmt::Result {
+        if self.0 < 0.0 {
+            write!(f, "-")?;
+        }
+        let n = num::to_u64(self.0.abs() * 10.0);
+        write!(f, "{}.{}", n / 10, n % 10)
     }
-    print_tenths(rt, x)
 }
 
-fn print_refused(rt: &impl Print, n: u32) -> io::Result<()> {
-    print_u32(rt, b"refused as ", n)?;
-    print(rt, b"\n")
+fn print_refused(rt: &impl Print, refusal: Refusal) -> io::Result<()> {
+    println!(rt; "refused as {}", u32::from(refusal))
 }
 
 // ---- what is asked of a site
 
 // Cell, columns, rows and items.
-fn show_head(rt: &impl Print, text: &[u8], site: Site) -> io::Result<()> {
-    print(rt, text)?;
-    print_float(rt, b"cell ", site.grid.cell)?;
-    print_u32(rt, b", columns ", site.grid.cols)?;
-    print_u32(rt, b", rows ", site.grid.rows)?;
-    print_u32(rt, b", items ", site.items)?;
-    print(rt, b"\n")
-}
-
-fn show_id(rt: &impl Print, listed: bool, id: u32) -> io::Result<()> {
-    if listed {
-        print_u32(rt, b" ", id)?;
-    }
-    Ok(())
+fn show_head(rt: &impl Print, text: &str, site: Site) -> io::Result<()> {
+    let grid = site.grid;
+    println!(rt;
+        "{text}cell {}, columns {}, rows {}, items {}",
+        Tenths(grid.cell),
+        grid.cols,
+        grid.rows,
+        site.items
+    )
 }
 
 // The box query, in room for two ids, with one mark and this epoch before it.
 fn show_near(
     rt: &impl Print,
-    text: &[u8],
-    site: Site,
-    points: &[f64],
-    boxes: &[f64],
-    polygons: &[u32],
-    owners: &[u32],
-    starts: &[u32],
-    items: &[u32],
+    text: &str,
+    scene: Scene,
     b: Aabb,
     mark: u32,
     before: u32,
@@ -90,81 +58,45 @@ fn show_near(
     let mut marks = [mark; 2];
     let mut epoch = before;
     let mut ids = [0u32; 2];
-    let r = scene::polygons_near(
-        site, points, boxes, polygons, owners, starts, items, b, &mut marks, &mut epoch, &mut ids,
-    );
-    print(rt, text)?;
+    let r = scene.polygons_near(b, &mut marks, &mut epoch, &mut ids);
+    print!(rt; "{text}")?;
     match r {
-        Listing::Refused(n) => print_refused(rt, n),
-        Listing::Listed { written, read } => {
-            print(rt, b"lists")?;
-            show_id(rt, 0 < written, ids[0])?;
-            show_id(rt, 1 < written, ids[1])?;
-            print_size(rt, b", reads ", read)?;
-            print_u32(rt, b", epoch ", epoch)?;
-            print(rt, b"\n")
+        Err(refusal) => print_refused(rt, refusal),
+        Ok(l) => {
+            print!(rt; "lists")?;
+            for id in ids.iter().take(l.written) {
+                print!(rt; " {id}")?;
+            }
+            println!(rt; ", reads {}, epoch {epoch}", l.read)
         }
     }
 }
 
-fn show_at(
-    rt: &impl Print,
-    text: &[u8],
-    site: Site,
-    points: &[f64],
-    boxes: &[f64],
-    polygons: &[u32],
-    owners: &[u32],
-    starts: &[u32],
-    items: &[u32],
-    p: Vec2,
-) -> io::Result<()> {
-    let r = scene::polygon_at(site, points, boxes, polygons, owners, starts, items, p);
-    print(rt, text)?;
-    match r {
-        Found::Refused(n) => print_refused(rt, n),
-        Found::Nobody => print(rt, b"nobody\n"),
-        Found::Id(id) => {
-            print_u32(rt, b"polygon ", id)?;
-            print(rt, b"\n")
-        }
+fn show_at(rt: &impl Print, text: &str, scene: Scene, p: Vec2) -> io::Result<()> {
+    print!(rt; "{text}")?;
+    match scene.polygon_at(p) {
+        Err(refusal) => print_refused(rt, refusal),
+        Ok(None) => println!(rt; "nobody"),
+        Ok(Some(id)) => println!(rt; "polygon {id}"),
     }
 }
 
-fn show_cast(rt: &impl Print, hit: Cast) -> io::Result<()> {
+fn show_cast(rt: &impl Print, hit: Option<RayHit>) -> io::Result<()> {
     match hit {
-        Cast::Miss => print(rt, b"a miss"),
-        Cast::Hit(t, edge) => {
-            print_u32(rt, b"edge ", edge)?;
-            print_float(rt, b" at ", t)
-        }
+        None => print!(rt; "a miss"),
+        Some(h) => print!(rt; "edge {} at {}", h.edge, Tenths(h.t)),
     }
 }
 
 // The ray from o along (1, 0), length 100, in mode 0.
-fn show_ray(
-    rt: &impl Print,
-    text: &[u8],
-    site: Site,
-    points: &[f64],
-    boxes: &[f64],
-    polygons: &[u32],
-    owners: &[u32],
-    starts: &[u32],
-    items: &[u32],
-    o: Vec2,
-) -> io::Result<()> {
+fn show_ray(rt: &impl Print, text: &str, scene: Scene, o: Vec2) -> io::Result<()> {
     let d = Vec2 { x: 1.0, y: 0.0 };
-    let r = scene::cast_ray(
-        site, points, boxes, polygons, owners, starts, items, o, d, 100.0, 0,
-    );
-    print(rt, text)?;
-    match r {
-        Look::Refused(n) => print_refused(rt, n),
-        Look::Seen { hit, cells } => {
-            show_cast(rt, hit)?;
-            print_size(rt, b", cells ", cells)?;
-            print(rt, b"\n")
+    print!(rt; "{text}")?;
+    match scene.cast_ray(o, d, 100.0, 0) {
+        Err(refusal) => print_refused(rt, refusal),
+        Ok(seen) => {
+            show_cast(rt, seen.hit)?;
+            println!(rt; ", cells {}", seen.cells)
         }
     }
 }
@@ -186,33 +118,17 @@ fn rooms() -> Rooms {
 
 fn show_shown(rt: &impl Print, s: Shown) -> io::Result<()> {
     if s.blocked {
-        return print(rt, b"blocked\n");
+        return println!(rt; "blocked");
     }
     if s.points == 0 {
-        return print(rt, b"empty\n");
+        return println!(rt; "empty");
     }
-    if s.full {
-        print(rt, b"full")?;
-    } else {
-        print(rt, b"a sector")?;
-    }
-    print_size(rt, b", points ", s.points)?;
-    print(rt, b"\n")
+    let kind = if s.full { "full" } else { "a sector" };
+    println!(rt; "{kind}, points {}", s.points)
 }
 
 // The outline of this cone, tolerance 0.1, in room for 128 points and two ids.
-fn show_post(
-    rt: &impl Print,
-    text: &[u8],
-    site: Site,
-    points: &[f64],
-    boxes: &[f64],
-    polygons: &[u32],
-    owners: &[u32],
-    starts: &[u32],
-    items: &[u32],
-    cone: ViewCone,
-) -> io::Result<()> {
+fn show_post(rt: &impl Print, text: &str, scene: Scene, cone: ViewCone) -> io::Result<()> {
     let mut marks = [0u32; 2];
     let mut epoch: u32 = 0;
     let mut floats = [0.0; 572];
@@ -220,13 +136,7 @@ fn show_post(
     let mut outline = [0.0; 256];
     let mut visible = [0u32; 2];
     let r = visibility::compute_visibility(
-        site,
-        points,
-        boxes,
-        polygons,
-        owners,
-        starts,
-        items,
+        scene,
         cone,
         visibility::default_tolerance(),
         0,
@@ -238,10 +148,10 @@ fn show_post(
         &mut outline,
         &mut visible,
     );
-    print(rt, text)?;
+    print!(rt; "{text}")?;
     match r {
-        Visibility::Refused(n) => print_refused(rt, n),
-        Visibility::Seen(s) => show_shown(rt, s),
+        Err(refusal) => print_refused(rt, refusal),
+        Ok(s) => show_shown(rt, s),
     }
 }
 
@@ -256,37 +166,18 @@ fn box_of(low: f64, high: f64) -> Aabb {
 }
 
 // What is asked of site A: P1, P2, P3, P8, P9 and P10.
-fn ask_a(
-    rt: &impl Print,
-    site: Site,
-    points: &[f64],
-    boxes: &[f64],
-    polygons: &[u32],
-    owners: &[u32],
-    starts: &[u32],
-    items: &[u32],
-) -> io::Result<()> {
+fn ask_a(rt: &impl Print, scene: Scene) -> io::Result<()> {
     let p2 = box_of(5.0, 6.0);
-    show_head(rt, b"P1 ", site)?;
-    show_near(
-        rt, b"P2 ", site, points, boxes, polygons, owners, starts, items, p2, 0, 0,
-    )?;
+    show_head(rt, "P1 ", scene.site)?;
+    show_near(rt, "P2 ", scene, p2, 0, 0)?;
     let p3 = box_of(6.0, 7.0);
-    show_near(
-        rt, b"P3 ", site, points, boxes, polygons, owners, starts, items, p3, 0, 0,
-    )?;
+    show_near(rt, "P3 ", scene, p3, 0, 0)?;
     let p8 = Vec2 { x: 0.5, y: 3.0 };
-    show_ray(
-        rt, b"P8 ", site, points, boxes, polygons, owners, starts, items, p8,
-    )?;
+    show_ray(rt, "P8 ", scene, p8)?;
     let p9 = Vec2 { x: 0.5, y: 0.5 };
-    show_ray(
-        rt, b"P9 ", site, points, boxes, polygons, owners, starts, items, p9,
-    )?;
+    show_ray(rt, "P9 ", scene, p9)?;
     // the mark 1 of long ago is cleared as the epoch wraps
-    show_near(
-        rt, b"P10 ", site, points, boxes, polygons, owners, starts, items, p2, 1, 4294967295,
-    )
+    show_near(rt, "P10 ", scene, p2, 1, 4294967295)
 }
 
 // A cone from (x, y) along (1, 0).
@@ -295,156 +186,74 @@ fn cone_at(x: f64, y: f64, range: f64, view: f64) -> ViewCone {
 }
 
 // Run: posts on site A, the whole way round.
-fn ask_posts(
-    rt: &impl Print,
-    site: Site,
-    points: &[f64],
-    boxes: &[f64],
-    polygons: &[u32],
-    owners: &[u32],
-    starts: &[u32],
-    items: &[u32],
-) -> io::Result<()> {
+fn ask_posts(rt: &impl Print, scene: Scene) -> io::Result<()> {
     show_post(
         rt,
-        b"post (2, 3), range 5: ",
-        site,
-        points,
-        boxes,
-        polygons,
-        owners,
-        starts,
-        items,
+        "post (2, 3), range 5: ",
+        scene,
         cone_at(2.0, 3.0, 5.0, 7.0),
     )?;
     show_post(
         rt,
-        b"post (4, 3), range 5: ",
-        site,
-        points,
-        boxes,
-        polygons,
-        owners,
-        starts,
-        items,
+        "post (4, 3), range 5: ",
+        scene,
         cone_at(4.0, 3.0, 5.0, 7.0),
     )?;
     show_post(
         rt,
-        b"post (1, 1), range 0: ",
-        site,
-        points,
-        boxes,
-        polygons,
-        owners,
-        starts,
-        items,
+        "post (1, 1), range 0: ",
+        scene,
         cone_at(1.0, 1.0, 0.0, 7.0),
     )?;
     show_post(
         rt,
-        b"post (1000000, 1), range 5: ",
-        site,
-        points,
-        boxes,
-        polygons,
-        owners,
-        starts,
-        items,
+        "post (1000000, 1), range 5: ",
+        scene,
         cone_at(1000000.0, 1.0, 5.0, 7.0),
     )?;
     show_post(
         rt,
-        b"post (1000001, 1), range 5: ",
-        site,
-        points,
-        boxes,
-        polygons,
-        owners,
-        starts,
-        items,
+        "post (1000001, 1), range 5: ",
+        scene,
         cone_at(1000001.0, 1.0, 5.0, 7.0),
     )
 }
 
 // Run: views from (1, 1) on site A, range 5.
-fn ask_views(
-    rt: &impl Print,
-    site: Site,
-    points: &[f64],
-    boxes: &[f64],
-    polygons: &[u32],
-    owners: &[u32],
-    starts: &[u32],
-    items: &[u32],
-) -> io::Result<()> {
+fn ask_views(rt: &impl Print, scene: Scene) -> io::Result<()> {
     show_post(
         rt,
-        b"view 1e-9: ",
-        site,
-        points,
-        boxes,
-        polygons,
-        owners,
-        starts,
-        items,
+        "view 1e-9: ",
+        scene,
         cone_at(1.0, 1.0, 5.0, 0.000000001),
     )?;
     show_post(
         rt,
-        b"view 2e-9: ",
-        site,
-        points,
-        boxes,
-        polygons,
-        owners,
-        starts,
-        items,
+        "view 2e-9: ",
+        scene,
         cone_at(1.0, 1.0, 5.0, 0.000000002),
     )?;
     show_post(
         rt,
-        b"view 6.2831853062: ",
-        site,
-        points,
-        boxes,
-        polygons,
-        owners,
-        starts,
-        items,
+        "view 6.2831853062: ",
+        scene,
         cone_at(1.0, 1.0, 5.0, 6.2831853062),
     )?;
     show_post(
         rt,
-        b"view 6.2831853061: ",
-        site,
-        points,
-        boxes,
-        polygons,
-        owners,
-        starts,
-        items,
+        "view 6.2831853061: ",
+        scene,
         cone_at(1.0, 1.0, 5.0, 6.2831853061),
     )
 }
 
 // The samples to prove, or those about posts, which are only run.
-fn ask(
-    rt: &impl Print,
-    posts: bool,
-    site: Site,
-    points: &[f64],
-    boxes: &[f64],
-    polygons: &[u32],
-    owners: &[u32],
-    starts: &[u32],
-    items: &[u32],
-) -> io::Result<()> {
+fn ask(rt: &impl Print, posts: bool, scene: Scene) -> io::Result<()> {
     if posts {
-        ask_posts(rt, site, points, boxes, polygons, owners, starts, items)?;
-        return ask_views(rt, site, points, boxes, polygons, owners, starts, items);
+        ask_posts(rt, scene)?;
+        return ask_views(rt, scene);
     }
-    ask_a(rt, site, points, boxes, polygons, owners, starts, items)
+    ask_a(rt, scene)
 }
 
 // Site A: 10 by 10, one square.
@@ -470,32 +279,30 @@ fn site_a(rt: &impl Print, posts: bool) -> io::Result<()> {
         &mut items,
     );
     match r {
-        Made::Refused(n) => print_refused(rt, n),
-        Made::Site(site) => ask(
-            rt, posts, site, &points, &boxes, &polygons, &owners, &starts, &items,
-        ),
+        Err(refusal) => print_refused(rt, refusal),
+        Ok(site) => {
+            let scene = Scene {
+                site,
+                tables: SiteTables {
+                    points: &points,
+                    boxes: &boxes,
+                    polygons: &polygons,
+                    owners: &owners,
+                    starts: &starts,
+                    items: &items,
+                },
+            };
+            ask(rt, posts, scene)
+        }
     }
 }
 
 // P4.
-fn ask_twice(
-    rt: &impl Print,
-    site: Site,
-    points: &[f64],
-    boxes: &[f64],
-    polygons: &[u32],
-    owners: &[u32],
-    starts: &[u32],
-    items: &[u32],
-) -> io::Result<()> {
+fn ask_twice(rt: &impl Print, scene: Scene) -> io::Result<()> {
     let whole = box_of(0.0, 10.0);
-    show_near(
-        rt, b"P4 ", site, points, boxes, polygons, owners, starts, items, whole, 0, 0,
-    )?;
+    show_near(rt, "P4 ", scene, whole, 0, 0)?;
     let p = Vec2 { x: 3.0, y: 3.0 };
-    show_at(
-        rt, b"P4 ", site, points, boxes, polygons, owners, starts, items, p,
-    )
+    show_at(rt, "P4 ", scene, p)
 }
 
 // The square twice.
@@ -523,15 +330,32 @@ fn site_twice(rt: &impl Print) -> io::Result<()> {
         &mut items,
     );
     match r {
-        Made::Refused(n) => print_refused(rt, n),
-        Made::Site(site) => ask_twice(
-            rt, site, &points, &boxes, &polygons, &owners, &starts, &items,
-        ),
+        Err(refusal) => print_refused(rt, refusal),
+        Ok(site) => {
+            let scene = Scene {
+                site,
+                tables: SiteTables {
+                    points: &points,
+                    boxes: &boxes,
+                    polygons: &polygons,
+                    owners: &owners,
+                    starts: &starts,
+                    items: &items,
+                },
+            };
+            ask_twice(rt, scene)
+        }
     }
 }
 
 // A site of one polygon or none in small room, its stored points left in `points`.
-fn build_small(width: f64, height: f64, given: &[f64], lens: &[u32], points: &mut [f64]) -> Made {
+fn build_small(
+    width: f64,
+    height: f64,
+    given: &[f64],
+    lens: &[u32],
+    points: &mut [f64],
+) -> Result<Site, Refusal> {
     let mut boxes = [0.0; 4];
     let mut polygons = [0u32; 2];
     let mut owners = [0u32; 4];
@@ -553,20 +377,11 @@ fn build_small(width: f64, height: f64, given: &[f64], lens: &[u32], points: &mu
 
 // P5: no polygons, 10 by 4.
 fn site_bare(rt: &impl Print) -> io::Result<()> {
-    let given = [0.0; 8];
-    let lens = [0u32; 1];
     let mut points = [0.0; 8];
-    match build_small(10.0, 4.0, &given[0..0], &lens[0..0], &mut points) {
-        Made::Refused(n) => print_refused(rt, n),
-        Made::Site(site) => show_head(rt, b"P5 ", site),
+    match build_small(10.0, 4.0, &[], &[], &mut points) {
+        Err(refusal) => print_refused(rt, refusal),
+        Ok(site) => show_head(rt, "P5 ", site),
     }
-}
-
-// A stored point.
-fn show_point(rt: &impl Print, x: f64, y: f64) -> io::Result<()> {
-    print_float(rt, b" (", x)?;
-    print_float(rt, b", ", y)?;
-    print(rt, b")")
 }
 
 // P6: four points the wrong way round, and how they are stored.
@@ -574,37 +389,35 @@ fn site_turned(rt: &impl Print) -> io::Result<()> {
     let given = [0.0, 0.0, 0.0, 2.0, 2.0, 2.0, 2.0, 0.0];
     let lens = [4u32; 1];
     let mut points = [0.0; 8];
-    print_float(rt, b"P6 area ", geom::signed_area(&given))?;
+    print!(rt; "P6 area {}", Tenths(geom::signed_area(&given)))?;
     match build_small(10.0, 10.0, &given, &lens, &mut points) {
-        Made::Refused(n) => print_refused(rt, n),
-        Made::Site(site) => {
-            print(rt, b", stored")?;
-            show_point(rt, points[0], points[1])?;
-            show_point(rt, points[2], points[3])?;
-            show_point(rt, points[4], points[5])?;
-            show_point(rt, points[6], points[7])?;
-            print(rt, b"\n")
+        Err(refusal) => print_refused(rt, refusal),
+        Ok(site) => {
+            print!(rt; ", stored")?;
+            for p in points.chunks_exact(2) {
+                print!(rt; " ({}, {})", Tenths(p[0]), Tenths(p[1]))?;
+            }
+            println!(rt)
         }
     }
 }
 
 // P7.
 fn draw(rt: &impl Print) -> io::Result<()> {
-    let g = Rng::new(1);
-    let r = g.range(5, 5);
-    print_number(rt, b"P7 range ", r.value)?;
-    print(rt, b"\n")
+    let mut rng = Rng::new(1);
+    let value = rng.range(5, 5);
+    println!(rt; "P7 range {value}")
 }
 
 // Run: a triangle that reaches to this coordinate.
-fn reach(rt: &impl Print, text: &[u8], far: f64) -> io::Result<()> {
+fn reach(rt: &impl Print, text: &str, far: f64) -> io::Result<()> {
     let given = [0.0, 0.0, far, 0.0, far, 1.0];
     let lens = [3u32; 1];
     let mut points = [0.0; 8];
-    print(rt, text)?;
+    print!(rt; "{text}")?;
     match build_small(10.0, 10.0, &given, &lens, &mut points) {
-        Made::Refused(n) => print_refused(rt, n),
-        Made::Site(site) => print(rt, b"taken\n"),
+        Err(refusal) => print_refused(rt, refusal),
+        Ok(_) => println!(rt; "taken"),
     }
 }
 
@@ -614,7 +427,7 @@ fn main(rt: HostRuntime) -> io::Result<()> {
     site_bare(&rt)?;
     site_turned(&rt)?;
     draw(&rt)?;
-    reach(&rt, b"coordinate 1000000 ", 1000000.0)?;
-    reach(&rt, b"coordinate 1000001 ", 1000001.0)?;
+    reach(&rt, "coordinate 1000000 ", 1000000.0)?;
+    reach(&rt, "coordinate 1000001 ", 1000001.0)?;
     site_a(&rt, true)
 }

@@ -16,14 +16,14 @@ use Rattle.site.specs.Domain.{box_in_domain, load_box_of}
 use Rattle.site.specs.Soundness.{sound_of}
 use Rattle.site.proofs.SoundLaws.{sound}
 use Rattle.build.specs.Outcome.{outcome, Does}
-use Rattle.build.specs.declared.Made.TheVariants as made
+use Rattle.std.proofs.Common.{Ok}
 use Rattle.build.proofs.BuiltSound.{built_sound}
 use Rattle.build.proofs.BuiltIndex.{built_query}
 use Rattle.scene.specs.Stamping.{polygons_near_of}
 use Rattle.scene.proofs.Near.{asks}
 use Rattle.scene.proofs.NeverSix.{NeverSix, sound_never_six}
 
-module _ (width height : Float) (given : List Float) (lens : List ℕ) (lent left : Tables) (s : Site) (d : Does (outcome width height given lens lent) (made.Site s) left) where
+module _ (width height : Float) (given : List Float) (lens : List ℕ) (lent left : Tables) (s : Site) (d : Does (outcome width height given lens lent) (Ok s) left) where
   is_sound : sound_of s left ≡ true
   is_sound = built_sound width height given lens lent left s d
 

@@ -6,31 +6,30 @@ use mathlib.Core.List.{List}
 use lib.Ieee.{Float}
 use Rattle.geom.specs.declared.Vec2.{Vec2}
 use Rattle.geom.specs.declared.Aabb.{Aabb}
-use Rattle.grid.specs.Numbers.{listed_status}
 use Rattle.site.specs.declared.Site.{Site}
 use Rattle.site.specs.Tables.{Tables}
 use Rattle.site.specs.Soundness.{Sound}
 use Rattle.site.specs.Checks.{Checks, check, Exactly}
 use Rattle.scene.specs.Answers.{width_of, height_of, bounds_of, dims_of, polygon_of, polygon_vertices_number_of, edge_of, edge_end_of, edge_owner_of, items_at_number_of, polygon_at_of, cast_ray_of}
 use Rattle.scene.specs.Stamping.{new_stamps_of, polygons_near_of}
-use Rattle.scene.specs.Numbers.{extent_status, bounds_status, dims_status, shape_status, segment_status, index_status, count_status, stamps_status, found_status, look_status}
+use Rattle.refusal.specs.Numbers.{status_of}
 use Rattle.scene.proofs.Refusals.{width_exactly, height_exactly, bounds_exactly, dims_exactly, polygon_exactly, polygon_vertices_exactly, edge_exactly, edge_end_exactly, edge_owner_exactly, new_stamps_exactly, polygons_near_exactly, items_at_exactly, polygon_at_exactly, cast_ray_exactly}
 
 pub record NeverSix (site : Site) (t : Tables) : Type 0 where
-  pub width : extent_status (width_of site t) ≡ 6 → ⊥
-  pub height : extent_status (height_of site t) ≡ 6 → ⊥
-  pub bounds : bounds_status (bounds_of site t) ≡ 6 → ⊥
-  pub dims : dims_status (dims_of site t) ≡ 6 → ⊥
-  pub polygon : (id : ℕ) → shape_status (polygon_of site t id) ≡ 6 → ⊥
-  pub polygon_vertices : (id : ℕ) → count_status (polygon_vertices_number_of site t id) ≡ 6 → ⊥
-  pub edge : (e : ℕ) → segment_status (edge_of site t e) ≡ 6 → ⊥
-  pub edge_end : (e : ℕ) → index_status (edge_end_of site t e) ≡ 6 → ⊥
-  pub edge_owner : (e : ℕ) → index_status (edge_owner_of site t e) ≡ 6 → ⊥
-  pub new_stamps : (m : List ℕ) (e : ℕ) → stamps_status (new_stamps_of site t m e).answer ≡ 6 → ⊥
-  pub polygons_near : (b : Aabb) (m : List ℕ) (e : ℕ) (ids : List ℕ) → listed_status (polygons_near_of site t b m e ids).answer ≡ 6 → ⊥
-  pub items_at : (p : Vec2) → count_status (items_at_number_of site t p) ≡ 6 → ⊥
-  pub polygon_at : (p : Vec2) → found_status (polygon_at_of site t p) ≡ 6 → ⊥
-  pub cast_ray : (o d : Vec2) (len : Float) (mode : ℕ) → look_status (cast_ray_of site t o d len mode) ≡ 6 → ⊥
+  pub width : status_of (width_of site t) ≡ 6 → ⊥
+  pub height : status_of (height_of site t) ≡ 6 → ⊥
+  pub bounds : status_of (bounds_of site t) ≡ 6 → ⊥
+  pub dims : status_of (dims_of site t) ≡ 6 → ⊥
+  pub polygon : (id : ℕ) → status_of (polygon_of site t id) ≡ 6 → ⊥
+  pub polygon_vertices : (id : ℕ) → status_of (polygon_vertices_number_of site t id) ≡ 6 → ⊥
+  pub edge : (e : ℕ) → status_of (edge_of site t e) ≡ 6 → ⊥
+  pub edge_end : (e : ℕ) → status_of (edge_end_of site t e) ≡ 6 → ⊥
+  pub edge_owner : (e : ℕ) → status_of (edge_owner_of site t e) ≡ 6 → ⊥
+  pub new_stamps : (m : List ℕ) (e : ℕ) → status_of (new_stamps_of site t m e).answer ≡ 6 → ⊥
+  pub polygons_near : (b : Aabb) (m : List ℕ) (e : ℕ) (ids : List ℕ) → status_of (polygons_near_of site t b m e ids).answer ≡ 6 → ⊥
+  pub items_at : (p : Vec2) → status_of (items_at_number_of site t p) ≡ 6 → ⊥
+  pub polygon_at : (p : Vec2) → status_of (polygon_at_of site t p) ≡ 6 → ⊥
+  pub cast_ray : (o d : Vec2) (len : Float) (mode : ℕ) → status_of (cast_ray_of site t o d len mode) ≡ 6 → ⊥
 
 module _ (site : Site) (t : Tables) (s : Sound site t) where
   -- of whatever is checked for its tables first

@@ -16,19 +16,21 @@ use Rattle.site.specs.Soundness.{sound_of}
 use Rattle.site.proofs.SoundLaws.{sound, verts_length}
 use Rattle.scene.specs.Asked.{asked}
 use Rattle.scene.specs.Answers.{polygon_vertices_of, polygon_vertices_number_of, items_at_of, items_at_number_of}
-use Rattle.scene.specs.Numbers.{count_status, count_value}
-use Rattle.scene.specs.declared.Count.{Count}
-use Rattle.scene.specs.declared.Count.TheVariants.{Number, Refused}
+use Rattle.scene.specs.Numbers.{number_value}
+use Rattle.refusal.specs.declared.Refusal.{Refusal}
+use Rattle.refusal.specs.declared.Refusal.TheVariants.{OutsideDomain, Unsound}
+use Rattle.refusal.specs.Numbers.{status_of}
+use Rattle.std.proofs.Common.{Result, Ok, Err}
 
 -- a part of entries that take so many numbers each, and the answer that counts them
-pub record PartOf {A : Type 0} (stride : ℕ) (number : Count) (part : List A) : Type 0 where
+pub record PartOf {A : Type 0} (stride : ℕ) (number : Result ℕ Refusal) (part : List A) : Type 0 where
   -- "empty on refusal", ..
-  pub refused_empty : (count_status number ≡ 0 → ⊥) → part ≡ []
+  pub refused_empty : (status_of number ≡ 0 → ⊥) → part ≡ []
   -- .. and otherwise as many entries as the number says
-  pub answered_long : count_status number ≡ 0 → length part ≡ stride * count_value number
+  pub answered_long : status_of number ≡ 0 → length part ≡ stride * number_value number
 
 part_by : {A : Type 0} (stride n : ℕ) (l : List A) (s i : Bool) → (s ≡ true → i ≡ true → length l ≡ stride * n)
-    → PartOf stride (cond s (cond i (Number n) (Refused 1)) (Refused 6)) (cond s (cond i l []) [])
+    → PartOf stride (cond s (cond i (Ok n) (Err OutsideDomain)) (Err Unsound)) (cond s (cond i l []) [])
 part_by stride n l true true h = record { refused_empty = λ f. absurd (f refl); answered_long = λ z. h refl refl }
 part_by stride n l true false h = record { refused_empty = λ f. refl; answered_long = λ z. absurd (omega (arith, z)) }
 part_by stride n l false i h = record { refused_empty = λ f. refl; answered_long = λ z. absurd (omega (arith, z)) }

@@ -19,14 +19,15 @@ use Rattle.grid.proofs.BoxQuery.{cell_named}
 use Rattle.walk.proofs.EnteredOnce.{Once}
 use Rattle.site.specs.Meets.{met_at}
 use Rattle.site.specs.declared.Site.{Site}
-use Rattle.site.specs.declared.Cast.{Cast}
-use Rattle.site.specs.declared.Cast.TheVariants.{Hit}
+use Rattle.site.specs.declared.RayHit.{RayHit}
+use Rattle.site.specs.Hits.{hit_at}
+use Rattle.refusal.specs.declared.Refusal.{Refusal}
+use Rattle.refusal.specs.declared.Refusal.TheVariants.{OutsideDomain, Unsound}
+use Rattle.std.proofs.Common.{Option, Result, Ok, Err}
 use Rattle.site.specs.Tables.{Tables}
 use Rattle.site.specs.Domain.{point_in_domain, load_of, load_point_of}
 use Rattle.site.specs.Soundness.{sound_of, Sound}
 use Rattle.site.proofs.SoundLaws.{sound, verts_length, grid_sound, grid_named}
-use Rattle.sight.specs.declared.Whose.{Whose}
-use Rattle.sight.specs.declared.Whose.TheVariants as whose
 use Rattle.sight.specs.declared.Sighting.{Sighting}
 use Rattle.sight.specs.Holding.{holds_point}
 use Rattle.sight.specs.Holding as holding
@@ -39,45 +40,29 @@ use Rattle.sight.proofs.Rusts.{rust_ray}
 use Rattle.sight.proofs.Alike.{distance_in, alike}
 use Rattle.sight.proofs.Lowest.{Nearest, nearest_ray, lowest_ray}
 use Rattle.scene.specs.Asked.{asked, ray_in_domain}
-use Rattle.scene.specs.Answers.{found_from, polygon_at_of, look_from, cast_ray_of, seen_cells, seen_tested}
-use Rattle.scene.specs.declared.Found.{Found}
-use Rattle.scene.specs.declared.Found.TheVariants as found
-use Rattle.scene.specs.declared.Look.{Look}
-use Rattle.scene.specs.declared.Look.TheVariants as look
+use Rattle.scene.specs.Answers.{polygon_at_of, seen, cast_ray_of, seen_cells, seen_tested}
 
 -- ---- `polygon_at`
--- the answer without a refusal, as what the cell holds
-abbrev pub was_found : Whose → Found
-was_found (whose.Id k) = found.Id k
-was_found whose.Nobody = found.Nobody
-
-found_by_lem : (w v : Whose) (s i : Bool) → cond s (cond i (found_from w) (found.Refused 1)) (found.Refused 6) ≡ was_found v → w ≡ v
-unfolding found_from
-found_by_lem (whose.Id j) (whose.Id k) true true e = let h : j ≡ k = cc in rw h
-found_by_lem (whose.Id j) whose.Nobody true true e = let z : ◌≡◌ {A = ℕ} 0 1 = cc in absurd (omega arith)
-found_by_lem whose.Nobody (whose.Id k) true true e = let z : ◌≡◌ {A = ℕ} 0 1 = cc in absurd (omega arith)
-found_by_lem whose.Nobody whose.Nobody true true e = refl
-found_by_lem w (whose.Id k) true false e = let z : ◌≡◌ {A = ℕ} 0 1 = cc in absurd (omega arith)
-found_by_lem w whose.Nobody true false e = let z : ◌≡◌ {A = ℕ} 0 1 = cc in absurd (omega arith)
-found_by_lem w (whose.Id k) false i e = let z : ◌≡◌ {A = ℕ} 0 1 = cc in absurd (omega arith)
-found_by_lem w whose.Nobody false i e = let z : ◌≡◌ {A = ℕ} 0 1 = cc in absurd (omega arith)
+found_by_lem : (w v : Option ℕ) (s i : Bool) → cond s (cond i (Ok w) (Err OutsideDomain)) (Err Unsound) ≡ Ok v → w ≡ v
+found_by_lem w v true true e = cc
+found_by_lem w v true false e = cc
+found_by_lem w v false i e = cc
 
 module _ (site : Site) (t : Tables) (p : Vec2) where
-  found_is : (v : Whose) → polygon_at_of site t p ≡ was_found v
+  found_is : (v : Option ℕ) → polygon_at_of site t p ≡ Ok v
       → holding.polygon_at_of site.grid t.points t.boxes t.polygons t.starts t.items (load_point_of p) ≡ v
   unfolding polygon_at_of asked
   found_is v e = found_by_lem _ v (sound_of site t) (point_in_domain p) e
 
-  pub found_top_most : (v : Whose) → polygon_at_of site t p ≡ was_found v
+  pub found_top_most : (v : Option ℕ) → polygon_at_of site t p ≡ Ok v
       → TopMost (holds_point t.points t.boxes t.polygons (load_point_of p)) (items_at site.grid (load_point_of p) t.starts t.items) v
   found_top_most v e = rw (found_is v e) at (top_most site.grid t.points t.boxes t.polygons t.starts t.items (load_point_of p))
 
 -- ---- `cast_ray`
-seen_by : (s : Sighting) (hit : Cast) (n : ℕ) (a b : Bool) → cond a (cond b (look_from s) (look.Refused 1)) (look.Refused 6) ≡ look.Seen hit n
-    → (a ≡ true) × (hit ≡ s.hit) × (n ≡ s.cells)
-seen_by s hit n true true e = (refl, (cc), (cc))
-seen_by s hit n true false e = let z : ◌≡◌ {A = ℕ} 0 1 = cc in absurd (omega arith)
-seen_by s hit n false b e = let z : ◌≡◌ {A = ℕ} 0 1 = cc in absurd (omega arith)
+seen_by : (s v : Sighting) (a b : Bool) → cond a (cond b (Ok s) (Err OutsideDomain)) (Err Unsound) ≡ Ok v → (a ≡ true) × (v ≡ s)
+seen_by s v true true e = (refl, (let k : s ≡ v = cc in sym k))
+seen_by s v true false e = cc
+seen_by s v false b e = cc
 
 -- on sound tables the edges of every polygon in a cell are edges of the site
 numbered : (site : Site) (t : Tables) → Sound site t → (c : ℕ) → c < site.grid.cols * site.grid.rows
@@ -87,17 +72,17 @@ numbered site t h c l =
     (cell_of t.starts t.items c) (cell_named site.polygons c (grid_sound h) (grid_named h site.polygons (le_refl site.polygons)) l)
 
 -- an answer without the number of its edge
-abbrev pub without_edge : Look → Look
-without_edge (look.Seen hit n) = look.Seen (distance_in hit) n
-without_edge (look.Refused n) = look.Refused n
+abbrev pub without_edge : Result Sighting Refusal → Result Sighting Refusal
+without_edge (Ok s) = seen (distance_in s.hit) s.cells
+without_edge (Err r) = Err r
 
 modes_by : (s s' : Sighting) (a b : Bool) → distance_in s.hit ≡ distance_in s'.hit → s.cells ≡ s'.cells
-    → without_edge (cond a (cond b (look_from s) (look.Refused 1)) (look.Refused 6)) ≡ without_edge (cond a (cond b (look_from s') (look.Refused 1)) (look.Refused 6))
+    → without_edge (cond a (cond b (Ok s) (Err OutsideDomain)) (Err Unsound)) ≡ without_edge (cond a (cond b (Ok s') (Err OutsideDomain)) (Err Unsound))
 modes_by s s' true true h c = rw (h, c)
 modes_by s s' true false h c = refl
 modes_by s s' false b h c = refl
 
-edge_of : (n : ℕ) (c : Cast) (x : Float) (e : ℕ) → Hit x e ≡ c → Below n c → e < n
+edge_of : (n : ℕ) (c : Option RayHit) (x : Float) (e : ℕ) → hit_at x e ≡ c → Below n c → e < n
 edge_of n c x e h b = rw (← h) at b
 
 module _ (site : Site) (t : Tables) (o d : Vec2) (len : Float) (mode : ℕ) where
@@ -105,22 +90,24 @@ module _ (site : Site) (t : Tables) (o d : Vec2) (len : Float) (mode : ℕ) wher
   abbrev cast : Sighting
   cast = casting.cast_ray_of site.grid t.points t.boxes t.polygons t.starts t.items (load_point_of o) (load_point_of d) (load_of len) mode
 
-  seen_is : (hit : Cast) (n : ℕ) → cast_ray_of site t o d len mode ≡ look.Seen hit n → (sound_of site t ≡ true) × (hit ≡ cast.hit) × (n ≡ cast.cells)
+  seen_is : (hit : Option RayHit) (n : ℕ) → cast_ray_of site t o d len mode ≡ seen hit n → (sound_of site t ≡ true) × (hit ≡ cast.hit) × (n ≡ cast.cells)
   unfolding cast_ray_of asked
-  seen_is hit n e = seen_by cast hit n (sound_of site t) (ray_in_domain o d len mode) e
+  seen_is hit n e =
+      let s = seen_by cast (record { hit = hit; cells = n }) (sound_of site t) (ray_in_domain o d len mode) e in
+      (s.0, ap (λ (v : Sighting). v.hit) s.1, ap (λ (v : Sighting). v.cells) s.1)
 
-  pub seen_counted : (hit : Cast) (n : ℕ) → cast_ray_of site t o d len mode ≡ look.Seen hit n → n ≡ length (seen_cells site t o d len mode)
+  pub seen_counted : (hit : Option RayHit) (n : ℕ) → cast_ray_of site t o d len mode ≡ seen hit n → n ≡ length (seen_cells site t o d len mode)
   seen_counted hit n e =
       (seen_is hit n e).2 ∙ cells_counted site.grid t.points t.boxes t.polygons t.starts t.items (load_point_of o) (load_point_of d) (load_of len) mode
 
   pub seen_once : Once site.grid (seen_cells site t o d len mode)
   seen_once = cells_once site.grid t.points t.boxes t.polygons t.starts t.items (load_point_of o) (load_point_of d) (load_of len) mode
 
-  module _ (x : Float) (e n : ℕ) (h : cast_ray_of site t o d len mode ≡ look.Seen (Hit x e) n) where
+  module _ (x : Float) (e n : ℕ) (h : cast_ray_of site t o d len mode ≡ seen (hit_at x e) n) where
     -- a hit names an edge of the site
     pub seen_edge : e < site.points
     seen_edge =
-        let s = seen_is (Hit x e) n h in
+        let s = seen_is (hit_at x e) n h in
         edge_of site.points _ x e s.1
         (hit_below site.points site.grid t.points t.boxes t.polygons t.starts t.items (load_point_of o) (load_point_of d) (load_of len) mode
         (numbered site t (sound site t s.0)))
@@ -129,24 +116,24 @@ module _ (site : Site) (t : Tables) (o d : Vec2) (len : Float) (mode : ℕ) wher
     pub seen_nearest : Nearest x e (seen_tested site t o d len mode)
     seen_nearest =
         nearest_ray site.grid t.points t.boxes t.polygons t.starts t.items (load_point_of o) (load_point_of d) (load_of len) mode x e
-        (sym (seen_is (Hit x e) n h).1)
+        (sym (seen_is (hit_at x e) n h).1)
 
     -- and in a mode that is not 0 none that is met there has a lower number
     pub seen_lowest : (mode ≡ 0 → ⊥) → All (λ y. met_at x y.met ≡ true → e ≤ y.edge) (seen_tested site t o d len mode)
     seen_lowest =
         lowest_ray site.grid t.points t.boxes t.polygons t.starts t.items (load_point_of o) (load_point_of d) (load_of len) mode x e
-        (sym (seen_is (Hit x e) n h).1)
+        (sym (seen_is (hit_at x e) n h).1)
 
 -- ---- the two modes
 module _ (site : Site) (t : Tables) (o d : Vec2) (len : Float) where
   -- mode 0 is the Rust's cast
   pub seen_rust
       : cast_ray_of site t o d len 0
-      ≡ asked look.Refused site t (ray_in_domain o d len 0)
-      (look_from (rust_cast_ray site.grid t.points t.boxes t.polygons t.starts t.items (load_point_of o) (load_point_of d) (load_of len)))
+      ≡ asked Err site t (ray_in_domain o d len 0)
+      (Ok (rust_cast_ray site.grid t.points t.boxes t.polygons t.starts t.items (load_point_of o) (load_point_of d) (load_of len)))
   unfolding cast_ray_of
   seen_rust =
-      ap (λ (s : Sighting). asked look.Refused site t (ray_in_domain o d len 0) (look_from s))
+      ap (λ (s : Sighting). asked Err site t (ray_in_domain o d len 0) (Ok s))
       (rust_ray site.grid t.points t.boxes t.polygons t.starts t.items (load_point_of o) (load_point_of d) (load_of len))
 
   -- and mode 1 answers what mode 0 does but for the edge: the same refusal, or the same distance or miss and as many cells

@@ -1,7 +1,7 @@
 -- What each question that writes nothing answers, for every input: one definition for each call of `scene`, in the order of its source. The Rust's accessors and
 -- queries of `Scene` (scene.rs) and `items_at` and `dims` of its grid (grid.rs). Document 01, "Refusal numbers", "Domain" and "Site and grid". An answer that is
 -- refused carries document 01's number and nothing else. Definitions only.
-use Rattle.std.specs.Prelude.{ℕ, true, List, [], ltb, length, Float}
+use Rattle.std.specs.Prelude.{ℕ, true, List, [], ltb, length, Float, Option, Result, Ok, Err}
 use Rattle.geom.specs.declared.Vec2.{Vec2}
 use Rattle.grid.specs.Boxes.{box_at}
 use Rattle.grid.specs.Query.{items_at}
@@ -12,98 +12,76 @@ use Rattle.site.specs.declared.Ends.{Ends}
 use Rattle.site.specs.Tables.{Tables, first_of, len_of, owner_at, verts_of}
 use Rattle.site.specs.Tables as table
 use Rattle.site.specs.Domain.{point_in_domain, load_of, load_point_of}
-use Rattle.sight.specs.declared.Whose.{Whose}
-use Rattle.sight.specs.declared.Whose.TheVariants as whose
+use Rattle.site.specs.declared.RayHit.{RayHit}
 use Rattle.sight.specs.declared.Sighting.{Sighting}
 use Rattle.sight.specs.Holding as holding
 use Rattle.sight.specs.Casting as casting
 use Rattle.sight.specs.Tested.{Tested, cast_tested}
+use Rattle.refusal.specs.declared.Refusal.{Refusal}
+use Rattle.geom.specs.declared.Aabb.{Aabb}
+use Rattle.grid.specs.declared.Dims.{Dims}
+use Rattle.scene.specs.declared.Polygon.{Polygon}
 use Rattle.scene.specs.Asked.{asked, ray_in_domain}
-use Rattle.scene.specs.declared.Extent.{Extent}
-use Rattle.scene.specs.declared.Extent.TheVariants as extents
-use Rattle.scene.specs.declared.Region.{Region}
-use Rattle.scene.specs.declared.Region.TheVariants as region
-use Rattle.scene.specs.declared.GridDims.{GridDims}
-use Rattle.scene.specs.declared.GridDims.TheVariants as dims
-use Rattle.scene.specs.declared.Shape.{Shape}
-use Rattle.scene.specs.declared.Shape.TheVariants as shape
-use Rattle.scene.specs.declared.Segment.{Segment}
-use Rattle.scene.specs.declared.Segment.TheVariants as segment
-use Rattle.scene.specs.declared.Index.{Index}
-use Rattle.scene.specs.declared.Index.TheVariants as index
-use Rattle.scene.specs.declared.Count.{Count}
-use Rattle.scene.specs.declared.Count.TheVariants as count
-use Rattle.scene.specs.declared.Found.{Found}
-use Rattle.scene.specs.declared.Found.TheVariants as found
-use Rattle.scene.specs.declared.Look.{Look}
-use Rattle.scene.specs.declared.Look.TheVariants as look
 
 -- ---- the head: nothing is given that could lie outside the domain
-unfoldable pub width_of : Site → Tables → Extent
-width_of site t = asked extents.Refused site t true (extents.Of (load_of site.width))
+unfoldable pub width_of : Site → Tables → Result Float Refusal
+width_of site t = asked Err site t true (Ok (load_of site.width))
 
-unfoldable pub height_of : Site → Tables → Extent
-height_of site t = asked extents.Refused site t true (extents.Of (load_of site.height))
+unfoldable pub height_of : Site → Tables → Result Float Refusal
+height_of site t = asked Err site t true (Ok (load_of site.height))
 
-unfoldable pub bounds_of : Site → Tables → Region
+unfoldable pub bounds_of : Site → Tables → Result Aabb Refusal
 bounds_of site t =
-    asked region.Refused site t true
-    (region.Of (extent.bounds_of (load_of site.width) (load_of site.height) (boxes_of t.boxes site.polygons)))
+    asked Err site t true
+    (Ok (extent.bounds_of (load_of site.width) (load_of site.height) (boxes_of t.boxes site.polygons)))
 
-unfoldable pub dims_of : Site → Tables → GridDims
-dims_of site t = asked dims.Refused site t true (dims.Of site.grid.cols site.grid.rows)
+unfoldable pub dims_of : Site → Tables → Result Dims Refusal
+dims_of site t = asked Err site t true (Ok (record { cols = site.grid.cols; rows = site.grid.rows }))
 
 -- ---- polygons: "an id .. asked for below its count"
-unfoldable pub polygon_of : Site → Tables → ℕ → Shape
+unfoldable pub polygon_of : Site → Tables → ℕ → Result Polygon Refusal
 polygon_of site t id =
-    asked shape.Refused site t (ltb id site.polygons) (shape.Polygon (first_of t.polygons id) (len_of t.polygons id) (box_at t.boxes id))
+    asked Err site t (ltb id site.polygons) (Ok (record { first = first_of t.polygons id; len = len_of t.polygons id; aabb = box_at t.boxes id }))
 
 unfoldable pub polygon_vertices_of : Site → Tables → ℕ → List Float
 polygon_vertices_of site t id = asked (λ n. []) site t (ltb id site.polygons) (verts_of t.points t.polygons id)
 
 -- how many points they are. That the part holds twice as many numbers is `vertices_number` of proofs/Parts.antt
-unfoldable pub polygon_vertices_number_of : Site → Tables → ℕ → Count
-polygon_vertices_number_of site t id = asked count.Refused site t (ltb id site.polygons) (count.Number (len_of t.polygons id))
+unfoldable pub polygon_vertices_number_of : Site → Tables → ℕ → Result ℕ Refusal
+polygon_vertices_number_of site t id = asked Err site t (ltb id site.polygons) (Ok (len_of t.polygons id))
 
 -- ---- edges: an edge has the number of the point where it starts
-abbrev pub segment_from : Ends → Segment
-segment_from e = segment.Ends e.a e.b
+unfoldable pub edge_of : Site → Tables → ℕ → Result Ends Refusal
+edge_of site t e = asked Err site t (ltb e site.points) (Ok (table.edge_of t.points t.polygons t.owners e))
 
-unfoldable pub edge_of : Site → Tables → ℕ → Segment
-edge_of site t e = asked segment.Refused site t (ltb e site.points) (segment_from (table.edge_of t.points t.polygons t.owners e))
+unfoldable pub edge_end_of : Site → Tables → ℕ → Result ℕ Refusal
+edge_end_of site t e = asked Err site t (ltb e site.points) (Ok (table.edge_end_of t.polygons t.owners e))
 
-unfoldable pub edge_end_of : Site → Tables → ℕ → Index
-edge_end_of site t e = asked index.Refused site t (ltb e site.points) (index.At (table.edge_end_of t.polygons t.owners e))
-
-unfoldable pub edge_owner_of : Site → Tables → ℕ → Index
-edge_owner_of site t e = asked index.Refused site t (ltb e site.points) (index.At (owner_at t.owners e))
+unfoldable pub edge_owner_of : Site → Tables → ℕ → Result ℕ Refusal
+edge_owner_of site t e = asked Err site t (ltb e site.points) (Ok (owner_at t.owners e))
 
 -- ---- a point
 unfoldable pub items_at_of : Site → Tables → Vec2 → List ℕ
 items_at_of site t p = asked (λ n. []) site t (point_in_domain p) (items_at site.grid (load_point_of p) t.starts t.items)
 
-unfoldable pub items_at_number_of : Site → Tables → Vec2 → Count
+unfoldable pub items_at_number_of : Site → Tables → Vec2 → Result ℕ Refusal
 items_at_number_of site t p =
-    asked count.Refused site t (point_in_domain p) (count.Number (length (items_at site.grid (load_point_of p) t.starts t.items)))
+    asked Err site t (point_in_domain p) (Ok (length (items_at site.grid (load_point_of p) t.starts t.items)))
 
--- the answer without a refusal
-unfoldable pub found_from : Whose → Found
-found_from (whose.Id k) = found.Id k
-found_from whose.Nobody = found.Nobody
-
-unfoldable pub polygon_at_of : Site → Tables → Vec2 → Found
+unfoldable pub polygon_at_of : Site → Tables → Vec2 → Result (Option ℕ) Refusal
 polygon_at_of site t p =
-    asked found.Refused site t (point_in_domain p)
-    (found_from (holding.polygon_at_of site.grid t.points t.boxes t.polygons t.starts t.items (load_point_of p)))
+    asked Err site t (point_in_domain p)
+    (Ok (holding.polygon_at_of site.grid t.points t.boxes t.polygons t.starts t.items (load_point_of p)))
 
 -- ---- a ray, in a mode: 0 the Rust's rule, 1 the lowest edge of those tested at exactly the distance answered (document 02, Q-3)
-abbrev pub look_from : Sighting → Look
-look_from s = look.Seen s.hit s.cells
+-- the answer of a hit or a miss, and of so many cells entered
+abbrev pub seen : Option RayHit → ℕ → Result Sighting Refusal
+seen hit cells = Ok (record { hit = hit; cells = cells })
 
-unfoldable pub cast_ray_of : Site → Tables → Vec2 → Vec2 → Float → ℕ → Look
+unfoldable pub cast_ray_of : Site → Tables → Vec2 → Vec2 → Float → ℕ → Result Sighting Refusal
 cast_ray_of site t o d len mode =
-    asked look.Refused site t (ray_in_domain o d len mode)
-    (look_from (casting.cast_ray_of site.grid t.points t.boxes t.polygons t.starts t.items (load_point_of o) (load_point_of d) (load_of len) mode))
+    asked Err site t (ray_in_domain o d len mode)
+    (Ok (casting.cast_ray_of site.grid t.points t.boxes t.polygons t.starts t.items (load_point_of o) (load_point_of d) (load_of len) mode))
 
 -- the cells that it enters, in order, where it is not refused
 abbrev pub seen_cells : Site → Tables → Vec2 → Vec2 → Float → ℕ → List ℕ

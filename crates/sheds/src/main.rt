@@ -3,17 +3,12 @@
 // file `stdout` beside src/. The same two texts for the text program, which keeps to mode 0: examples/one-wall.wkt and examples/one-wall-turned.wkt.
 #![tactic(auto)]
 
-use build::Made;
 use cone::ViewCone;
 use geom::Vec2;
 use room::Rooms;
-use site::Site;
-use stages::Visibility;
+use scene::Scene;
+use site::SiteTables;
 use std::io;
-
-fn print(rt: &impl Print, text: &[u8]) -> io::Result<()> {
-    rt.write_all(text)
-}
 
 // How deep the first of the two sheds is, and the second.
 #[derive(Clone, Copy)]
@@ -24,26 +19,21 @@ struct Depths {
 
 // A shed by how deep it is. Id 0 is the one that was given first.
 fn print_shed(rt: &impl Print, id: u32, depths: Depths) -> io::Result<()> {
-    print(rt, b" the one ")?;
-    if id == 0 {
-        rt.print(num::to_u64(depths.first))?;
-    } else {
-        rt.print(num::to_u64(depths.second))?;
-    }
-    print(rt, b" deep")
+    let depth = if id == 0 { depths.first } else { depths.second };
+    print!(rt; " the one {} deep", num::to_u64(depth))
 }
 
 // The first n of the two ids.
 fn print_seen(rt: &impl Print, visible: &[u32; 2], n: usize, depths: Depths) -> io::Result<()> {
     if n == 0 {
-        return print(rt, b" none\n");
+        return println!(rt; " none");
     }
     print_shed(rt, visible[0], depths)?;
     if n == 2 {
-        print(rt, b" and")?;
+        print!(rt; " and")?;
         print_shed(rt, visible[1], depths)?;
     }
-    print(rt, b"\n")
+    println!(rt)
 }
 
 // What stands for the entries of each list: enough for two sheds.
@@ -62,18 +52,7 @@ fn rooms() -> Rooms {
 }
 
 // Who is seen from the post (4, -6), all around, as far as 40, in a mode.
-fn show_seen(
-    rt: &impl Print,
-    mode: u32,
-    depths: Depths,
-    site: Site,
-    points: &[f64],
-    boxes: &[f64],
-    polygons: &[u32],
-    owners: &[u32],
-    starts: &[u32],
-    items: &[u32],
-) -> io::Result<()> {
+fn show_seen(rt: &impl Print, mode: u32, depths: Depths, scene: Scene) -> io::Result<()> {
     let mut marks = [0u32; 2];
     let mut epoch: u32 = 0;
     let mut floats = [0.0; 572];
@@ -81,13 +60,7 @@ fn show_seen(
     let mut outline = [0.0; 256];
     let mut visible = [0u32; 2];
     let r = visibility::compute_visibility(
-        site,
-        points,
-        boxes,
-        polygons,
-        owners,
-        starts,
-        items,
+        scene,
         ViewCone::full(Vec2 { x: 4.0, y: -6.0 }, 40.0),
         visibility::default_tolerance(),
         mode,
@@ -99,42 +72,21 @@ fn show_seen(
         &mut outline,
         &mut visible,
     );
-    print(rt, b"    mode ")?;
-    rt.print(mode as u64)?;
+    print!(rt; "    mode {mode}")?;
     match r {
-        Visibility::Seen(s) => {
-            print(rt, b" credits")?;
+        Ok(s) => {
+            print!(rt; " credits")?;
             print_seen(rt, &visible, s.visible, depths)
         }
-        Visibility::Refused(n) => {
-            print(rt, b" is refused as ")?;
-            rt.print(n as u64)?;
-            print(rt, b"\n")
-        }
+        Err(refusal) => println!(rt; " is refused as {}", u32::from(refusal)),
     }
 }
 
 // Asks in both modes, and in one that there is not.
-fn ask(
-    rt: &impl Print,
-    depths: Depths,
-    site: Site,
-    points: &[f64],
-    boxes: &[f64],
-    polygons: &[u32],
-    owners: &[u32],
-    starts: &[u32],
-    items: &[u32],
-) -> io::Result<()> {
-    show_seen(
-        rt, 0, depths, site, points, boxes, polygons, owners, starts, items,
-    )?;
-    show_seen(
-        rt, 1, depths, site, points, boxes, polygons, owners, starts, items,
-    )?;
-    show_seen(
-        rt, 2, depths, site, points, boxes, polygons, owners, starts, items,
-    )
+fn ask(rt: &impl Print, depths: Depths, scene: Scene) -> io::Result<()> {
+    show_seen(rt, 0, depths, scene)?;
+    show_seen(rt, 1, depths, scene)?;
+    show_seen(rt, 2, depths, scene)
 }
 
 // The two sheds in this order.
@@ -164,11 +116,9 @@ fn show_sheds(rt: &impl Print, depths: Depths) -> io::Result<()> {
     let mut owners = [0u32; 8];
     let mut starts = [0u32; 17];
     let mut items = [0u32; 32];
-    print(rt, b"first the one ")?;
-    rt.print(num::to_u64(depths.first))?;
-    print(rt, b" deep, then the one ")?;
-    rt.print(num::to_u64(depths.second))?;
-    print(rt, b" deep:\n")?;
+    let first = num::to_u64(depths.first);
+    let second = num::to_u64(depths.second);
+    println!(rt; "first the one {first} deep, then the one {second} deep:")?;
     let r = build::new(
         0.0,
         0.0,
@@ -182,10 +132,21 @@ fn show_sheds(rt: &impl Print, depths: Depths) -> io::Result<()> {
         &mut items,
     );
     match r {
-        Made::Refused(_) => print(rt, b"    the site is refused\n"),
-        Made::Site(site) => ask(
-            rt, depths, site, &points, &boxes, &polygons, &owners, &starts, &items,
-        ),
+        Err(_) => println!(rt; "    the site is refused"),
+        Ok(site) => {
+            let scene = Scene {
+                site,
+                tables: SiteTables {
+                    points: &points,
+                    boxes: &boxes,
+                    polygons: &polygons,
+                    owners: &owners,
+                    starts: &starts,
+                    items: &items,
+                },
+            };
+            ask(rt, depths, scene)
+        }
     }
 }
 

@@ -1,5 +1,6 @@
 -- THE MODE MOVES NEITHER DISTANCE NOR CELLS: `alike`: in any two modes the ray answers the same distance, or a miss, and enters the same cells in the same order. Only
 -- the edge may be another. Document 02, Q-3: "The single ray takes the lowest edge too, among the edges it tests". Assumes nothing.
+use Rattle.std.proofs.Common.{None, Option, Some}
 use mathlib.Core.Path.{◌≡◌, refl, sym, ap, ◌∙◌}
 use mathlib.Core.Bool.{Bool, true, false, cond}
 use mathlib.Core.List.{List, [], ◌∷◌}
@@ -9,16 +10,12 @@ use lib.ListN.{length}
 use lib.Ieee.{Float, lt, eq}
 use Rattle.lists.specs.Members.{holds}
 use Rattle.geom.specs.declared.Vec2.{Vec2}
-use Rattle.geom.specs.declared.Reach.{Reach}
-use Rattle.geom.specs.declared.Reach.TheVariants as reach
 use Rattle.geom.specs.Box.{corners, corner_of}
 use Rattle.geom.specs.Segment.{ray_segment_of}
 use Rattle.geom.specs.Ring.{corner_before}
 use Rattle.grid.specs.declared.Grid.{Grid}
 use Rattle.grid.specs.Boxes.{box_at}
 use Rattle.grid.specs.Entries.{cell_of}
-use Rattle.site.specs.declared.Cast.{Cast}
-use Rattle.site.specs.declared.Cast.TheVariants.{Hit, Miss}
 use Rattle.site.specs.Tables.{first_of, verts_of}
 use Rattle.walk.specs.Clipping.{ray_start}
 use Rattle.walk.specs.Steps.{cell_number, exit_of}
@@ -30,11 +27,13 @@ use Rattle.sight.specs.declared.Look.{Look}
 use Rattle.sight.specs.declared.Recent.{Recent}
 use Rattle.sight.specs.Casting.{ray_of, edge_number, lower_of, level_of, nearer_of, edges_up_to, edges_met, pushed, box_seen, item_seen, items_seen, looker, look_first, sighting_of, cast_ray_of, cast_cells}
 use Rattle.sight.proofs.Together.{cond_both, ray_together}
+use Rattle.site.specs.Hits.{hit_at}
+use Rattle.site.specs.declared.RayHit.{RayHit}
 
 -- a hit without its number
-abbrev pub distance_in : Cast → Cast
-distance_in (Hit t e) = Hit t 0
-distance_in Miss = Miss
+abbrev pub distance_in : (Option RayHit) → Option RayHit
+distance_in (Some h) = hit_at h.t 0
+distance_in None = None
 
 record Near (b b' : Best) : Type 0 where
   pub t : b.t ≡ b'.t
@@ -55,13 +54,13 @@ near_trans a b c h k = record { t = h.t ∙ k.t; hit = h.hit ∙ k.hit }
 
 -- ---- one edge
 -- a lower number leaves the distance
-lower_near : (c : Cast) (b : Best) (e : ℕ) → b.hit ≡ c → Near (lower_of c e b) b
-lower_near (Hit u f) b e h = by (ltb e f)
+lower_near : (c : (Option RayHit)) (b : Best) (e : ℕ) → b.hit ≡ c → Near (lower_of c e b) b
+lower_near (Some q) b e h = by (ltb e q.edge)
   where
-    by : (x : Bool) → Near (cond x (record { t = b.t; hit = Hit u e }) b) b
+    by : (x : Bool) → Near (cond x (record { t = b.t; hit = hit_at q.t e }) b) b
     by true = record { t = refl; hit = sym (ap distance_in h) }
     by false = near_self b
-lower_near Miss b e h = near_self b
+lower_near None b e h = near_self b
 
 level_near : (mode : ℕ) (b : Best) (e : ℕ) (q : Bool) → Near (cond q (level_of mode b e) b) b
 level_near mode b e true = by (eqb mode 0)
@@ -72,13 +71,13 @@ level_near mode b e true = by (eqb mode 0)
 level_near mode b e false = near_self b
 
 module _ (m m' : ℕ) where
-  nearer_near : (b b' : Best) (r : Reach) (e : ℕ) → Near b b' → Near (nearer_of m b r e) (nearer_of m' b' r e)
+  nearer_near : (b b' : Best) (r : (Option Float)) (e : ℕ) → Near b b' → Near (nearer_of m b r e) (nearer_of m' b' r e)
   unfolding nearer_of
-  nearer_near b b' reach.Miss e h = h
-  nearer_near b b' (reach.Hit t) e h =
+  nearer_near b b' None e h = h
+  nearer_near b b' (Some t) e h =
       let l = cond (eq t b.t) (level_of m b e) b in
       let l' = cond (eq t b'.t) (level_of m' b' e) b' in
-      cond_both Near (lt t b.t) (lt t b'.t) (record { t = t; hit = Hit t e }) l (record { t = t; hit = Hit t e }) l' (ap (lt t) h.t) (near_self (record { t = t; hit = Hit t e }))
+      cond_both Near (lt t b.t) (lt t b'.t) (record { t = t; hit = hit_at t e }) l (record { t = t; hit = hit_at t e }) l' (ap (lt t) h.t) (near_self (record { t = t; hit = hit_at t e }))
       (near_trans l b l' (level_near m b e (eq t b.t)) (near_trans b b' l' h (near_sym l' b' (level_near m' b' e (eq t b'.t)))))
 
   -- ---- the edges of a polygon, the polygons of a cell

@@ -1,5 +1,6 @@
 -- A hit names an edge of a polygon that the walk met: where the edges of every polygon in the grid's cells have numbers below n, so has the hit, in every mode. On sound tables n is
 -- the number of points (crate `scene`, proofs/Seen.antt), so that no hit has the largest number, by which the Rust tells a miss. Assumes nothing.
+use Rattle.std.proofs.Common.{None, Option, Some}
 use Prim.Native.Nat.{ℕ, zero, suc, ◌+◌, ◌*◌, ◌≤◌, ◌<◌}
 use mathlib.Core.Path.{◌≡◌, refl}
 use mathlib.Core.Bool.{Bool, true, false, cond}
@@ -9,22 +10,14 @@ use lib.Dec.{eqb, ltb}
 use lib.Ieee.{Float, lt, eq}
 use Rattle.lists.specs.Members.{All, holds}
 use Rattle.geom.specs.declared.Vec2.{Vec2}
-use Rattle.geom.specs.declared.Reach.{Reach}
-use Rattle.geom.specs.declared.Reach.TheVariants as reach
 use Rattle.geom.specs.Box.{corners}
 use Rattle.geom.specs.Ring.{corner_before}
 use Rattle.grid.specs.declared.Grid.{Grid}
 use Rattle.grid.specs.Boxes.{box_at}
 use Rattle.grid.specs.Entries.{cell_of}
-use Rattle.site.specs.declared.Cast.{Cast}
-use Rattle.site.specs.declared.Cast.TheVariants.{Hit, Miss}
 use Rattle.site.specs.Tables.{first_of, verts_of}
 use Rattle.walk.specs.declared.Course.{Course}
 use Rattle.walk.specs.declared.Place.{Place}
-use Rattle.walk.specs.declared.Start.{Start}
-use Rattle.walk.specs.declared.Start.TheVariants as start
-use Rattle.walk.specs.declared.Step.{Step}
-use Rattle.walk.specs.declared.Step.TheVariants.{Next, Stop}
 use Rattle.walk.specs.Clipping.{ray_start}
 use Rattle.walk.specs.Steps.{cell_number, step_of, left, OnGrid}
 use Rattle.walk.specs.Tours.{Visitor, Tour, ends_at, onward, tour_in, tour, tour_from, ray_tour}
@@ -37,11 +30,13 @@ use Rattle.sight.specs.declared.Ray.{Ray}
 use Rattle.sight.specs.declared.Best.{Best}
 use Rattle.sight.specs.declared.Recent.{Recent}
 use Rattle.sight.specs.declared.Look.{Look}
+use Rattle.site.specs.Hits.{hit_at}
+use Rattle.site.specs.declared.RayHit.{RayHit}
 
 -- a hit has an edge below n
-abbrev pub Below : ℕ → Cast → Type 0
-Below n (Hit t e) = e < n
-Below n Miss = Unit {0}
+abbrev pub Below : ℕ → (Option RayHit) → Type 0
+Below n (Some h) = h.edge < n
+Below n None = Unit {0}
 
 -- the edges of the polygon have numbers below n
 abbrev pub Numbered : ℕ → List Float → List ℕ → ℕ → Type 0
@@ -49,11 +44,11 @@ Numbered n points polygons id = first_of polygons id + corners (verts_of points 
 
 -- ---- what a walk's visitor keeps at each cell of the grid holds at the end
 module _ {S : Type 0} (v : Visitor S) (k : Course) (P : S → Type 0) (keeps : (p : Place) (s : S) → OnGrid k p → P s → P (v.sees k p s)) where
-  kept_by : (p : Place) (s : S) (f : Place → Tour S) (b : Bool) (t : Step) → step_of k p ≡ t → P s → ((q : Place) → step_of k p ≡ Next q → P (f q).final)
+  kept_by : (p : Place) (s : S) (f : Place → Tour S) (b : Bool) (t : (Option Place)) → step_of k p ≡ t → P s → ((q : Place) → step_of k p ≡ Some q → P (f q).final)
       → P (cond b (onward p s f t) (ends_at p s)).final
   kept_by p s f false t e h r = h
-  kept_by p s f true Stop e h r = h
-  kept_by p s f true (Next q) e h r = r q e
+  kept_by p s f true None e h r = h
+  kept_by p s f true (Some q) e h r = r q e
 
   kept_in : (m : ℕ) (p : Place) (s : S) → OnGrid k p → P s → P (tour_in v m k p s).final
   unfolding tour_in
@@ -68,25 +63,25 @@ module _ {S : Type 0} (v : Visitor S) (k : Course) (P : S → Type 0) (keeps : (
 
 -- ---- one edge, one polygon, one cell
 module _ (n mode : ℕ) where
-  lower_below : (c : Cast) (b : Best) (e : ℕ) → e < n → Below n b.hit → Below n (lower_of c e b).hit
-  lower_below Miss b e h g = g
-  lower_below (Hit t f) b e h g = by (ltb e f)
+  lower_below : (c : (Option RayHit)) (b : Best) (e : ℕ) → e < n → Below n b.hit → Below n (lower_of c e b).hit
+  lower_below None b e h g = g
+  lower_below (Some q) b e h g = by (ltb e q.edge)
     where
-      by : (x : Bool) → Below n (cond x (record { t = b.t; hit = Hit t e }) b).hit
+      by : (x : Bool) → Below n (cond x (record { t = b.t; hit = hit_at q.t e }) b).hit
       by true = h
       by false = g
 
   nearer_by : (b : Best) (t : Float) (e : ℕ) (p q z : Bool) → e < n → Below n b.hit
-      → Below n (cond p (record { t = t; hit = Hit t e }) (cond q (cond z b (lower_of b.hit e b)) b)).hit
+      → Below n (cond p (record { t = t; hit = hit_at t e }) (cond q (cond z b (lower_of b.hit e b)) b)).hit
   nearer_by b t e true q z h g = h
   nearer_by b t e false false z h g = g
   nearer_by b t e false true true h g = g
   nearer_by b t e false true false h g = lower_below b.hit b e h g
 
-  nearer_below : (b : Best) (m : Reach) (e : ℕ) → e < n → Below n b.hit → Below n (nearer_of mode b m e).hit
+  nearer_below : (b : Best) (m : (Option Float)) (e : ℕ) → e < n → Below n b.hit → Below n (nearer_of mode b m e).hit
   unfolding nearer_of
-  nearer_below b (reach.Hit t) e h g = nearer_by b t e (lt t b.t) (eq t b.t) (eqb mode 0) h g
-  nearer_below b reach.Miss e h g = g
+  nearer_below b (Some t) e h g = nearer_by b t e (lt t b.t) (eq t b.t) (eqb mode 0) h g
+  nearer_below b None e h g = g
 
   before_in : (m i : ℕ) → i < m → corner_before m i < m
   before_in m zero h = omega arith
@@ -128,9 +123,9 @@ module _ (n mode : ℕ) where
 -- ---- the cast
 module _ (n : ℕ) (g : Grid) (points boxes : List Float) (polygons starts items : List ℕ) (o d : Vec2) (len : Float) (mode : ℕ)
     (cells : (c : ℕ) → c < g.cols * g.rows → All (Numbered n points polygons) (cell_of starts items c)) where
-  from_below : (t : Start) → ray_start g o d len ≡ t → Below n (tour_from (looker (nearer_of mode) (ray_of o d) points boxes polygons starts items) t (look_first len)).final.best.hit
-  from_below start.Miss e = tt
-  from_below (start.From k p) e =
+  from_below : (t : (Option (Course × Place))) → ray_start g o d len ≡ t → Below n (tour_from (looker (nearer_of mode) (ray_of o d) points boxes polygons starts items) t (look_first len)).final.best.hit
+  from_below None e = tt
+  from_below (Some (k, p)) e =
       let b = start_in g o d len k p e in
       let m : k.cols * k.rows ≡ g.cols * g.rows = rw (b.same_cols, b.same_rows) in
       kept (looker (nearer_of mode) (ray_of o d) points boxes polygons starts items) k (λ s. Below n s.best.hit)

@@ -1,6 +1,7 @@
 -- THE LOWEST OF THE EDGES TESTED. `cast-folds`: the hit is what the mode's rule makes of the edges tested (specs/Tested.antt), one after the other. `nearest_ray`: in every
 -- mode the edge answered is one of them, met at exactly the distance answered, and none of them is met nearer. `lowest_ray`: in a mode that is not 0 none that is met at
 -- exactly that distance has a lower number. Document 02, Q-3: "The single ray takes the lowest edge too, among the edges it tests". Assumes nothing.
+use Rattle.std.proofs.Common.{None, Option, Some}
 use mathlib.Core.Path.{◌≡◌, refl, sym, ap, ◌∙◌, subst}
 use mathlib.Core.Logic.{inl}
 use mathlib.Core.Bool.{Bool, true, false, cond, true≢false}
@@ -14,8 +15,6 @@ use borrow.Author.Tests.{ltb-true, ltb-false, eqb-true}
 use Rattle.lists.specs.Members.{In, All, holds}
 use Rattle.lists.proofs.Members.{in_left, in_right, all_map, all_append}
 use Rattle.geom.specs.declared.Vec2.{Vec2}
-use Rattle.geom.specs.declared.Reach.{Reach}
-use Rattle.geom.specs.declared.Reach.TheVariants as reach
 use Rattle.geom.specs.Box.{corners, corner_of}
 use Rattle.geom.specs.Segment.{ray_segment_of}
 use Rattle.geom.specs.Ring.{corner_before}
@@ -23,8 +22,6 @@ use Rattle.grid.specs.declared.Grid.{Grid}
 use Rattle.grid.specs.Boxes.{box_at}
 use Rattle.grid.specs.Entries.{cell_of}
 use Rattle.site.specs.Meets.{met_at, met_before}
-use Rattle.site.specs.declared.Cast.{Cast}
-use Rattle.site.specs.declared.Cast.TheVariants.{Hit, Miss}
 use Rattle.site.specs.Tables.{first_of, verts_of}
 use Rattle.site.proofs.Distances.{off, eq_le, le_lt, lt_lt, lt_self, lt_eq_self}
 use Rattle.walk.specs.Steps.{cell_number, exit_of}
@@ -35,6 +32,8 @@ use Rattle.sight.specs.declared.Look.{Look}
 use Rattle.sight.specs.Casting.{Rule, ray_of, edge_number, lower_of, nearer_of, edges_up_to, edges_met, pushed, item_seen, items_seen, looker, look_first, sighting_of, cast_ray_of}
 use Rattle.sight.specs.Tested.{Tested, Log, edges_tested, item_tested, item_logged, logger, cast_tested}
 use Rattle.sight.proofs.Together.{ray_together}
+use Rattle.site.specs.Hits.{hit_at}
+use Rattle.site.specs.declared.RayHit.{RayHit}
 
 -- ---- the cast is a fold over the edges tested
 -- the edge x counts by the rule
@@ -91,7 +90,7 @@ module _ (rule : Rule) (ray : Ray) where
 module _ (g : Grid) (points boxes : List Float) (polygons starts items : List ℕ) (o d : Vec2) (len : Float) (mode : ℕ) where
   pub cast_folds
       : (cast_ray_of g points boxes polygons starts items o d len mode).hit
-      ≡ (foldl (counts (nearer_of mode)) (record { t = len; hit = Miss }) (cast_tested g points boxes polygons starts items o d len mode)).hit
+      ≡ (foldl (counts (nearer_of mode)) (record { t = len; hit = None }) (cast_tested g points boxes polygons starts items o d len mode)).hit
   unfolding cast_ray_of sighting_of cast_tested
   cast_folds =
       let b₀ = (look_first len).best in
@@ -115,9 +114,9 @@ abbrev NotLower : Float → ℕ → Tested → Type 0
 NotLower t e x = met_at t x.met ≡ true → e ≤ x.edge
 
 -- a hit is at the best's distance and is one of them, and in a mode that is not 0 the lowest there
-abbrev Right : ℕ → List Tested → Float → Cast → Type 0
-Right mode l t (Hit u e) = (u ≡ t) × One t e l × ((mode ≡ 0 → ⊥) → All (NotLower t e) l)
-Right mode l t Miss = Unit {0}
+abbrev Right : ℕ → List Tested → Float → (Option RayHit) → Type 0
+Right mode l t (Some h) = (h.t ≡ t) × One t h.edge l × ((mode ≡ 0 → ⊥) → All (NotLower t h.edge) l)
+Right mode l t None = Unit {0}
 
 record So (mode : ℕ) (l : List Tested) (b : Best) : Type 0 where
   pub near : All (NotBefore b.t) l
@@ -131,30 +130,30 @@ one_last : (t : Float) (l : List Tested) (x : Tested) → met_at t x.met ≡ tru
 one_last t l x h = (x, in_right x l (x ∷ []) (inl refl), refl, h)
 
 -- nothing is met before a smaller distance, and what is met there is not among those done
-nearer_before : (t u : Float) → lt u t ≡ true → (m : Reach) → met_before t m ≡ false → met_before u m ≡ false
-nearer_before t u h (reach.Hit v) k = off (lt v u) (λ q. true≢false (sym (lt_lt v u t q h) ∙ k))
-nearer_before t u h reach.Miss k = refl
+nearer_before : (t u : Float) → lt u t ≡ true → (m : (Option Float)) → met_before t m ≡ false → met_before u m ≡ false
+nearer_before t u h (Some v) k = off (lt v u) (λ q. true≢false (sym (lt_lt v u t q h) ∙ k))
+nearer_before t u h None k = refl
 
-nearer_alone : (t u : Float) → lt u t ≡ true → (m : Reach) → met_before t m ≡ false → met_at u m ≡ true → ⊥
-nearer_alone t u h (reach.Hit v) k q = true≢false (sym (le_lt v u t (eq_le v u q) h) ∙ k)
-nearer_alone t u h reach.Miss k q = true≢false (sym q)
+nearer_alone : (t u : Float) → lt u t ≡ true → (m : (Option Float)) → met_before t m ≡ false → met_at u m ≡ true → ⊥
+nearer_alone t u h (Some v) k q = true≢false (sym (le_lt v u t (eq_le v u q) h) ∙ k)
+nearer_alone t u h None k q = true≢false (sym q)
 
 module _ (mode : ℕ) (l : List Tested) (t : Float) where
   -- the best stays: what is met is not before it, and in a mode that is not 0 not lower than it
-  stays : (c : Cast) (x : Tested) → So mode l (record { t = t; hit = c }) → NotBefore t x → ((u : Float) (e : ℕ) → c ≡ Hit u e → (mode ≡ 0 → ⊥) → NotLower t e x)
+  stays : (c : (Option RayHit)) (x : Tested) → So mode l (record { t = t; hit = c }) → NotBefore t x → ((u : Float) (e : ℕ) → c ≡ hit_at u e → (mode ≡ 0 → ⊥) → NotLower t e x)
       → So mode (l ++ (x ∷ [])) (record { t = t; hit = c })
-  stays (Hit u e) x h n k =
+  stays (Some q) x h n k =
       record {
         near = all_append (NotBefore t) l (x ∷ []) h.near (n, tt);
-        right = (h.right.0, one_more t e l x h.right.1, λ z. all_append (NotLower t e) l (x ∷ []) (h.right.2 z) (k u e refl z, tt));
+        right = (h.right.0, one_more t q.edge l x h.right.1, λ z. all_append (NotLower t q.edge) l (x ∷ []) (h.right.2 z) (k q.t q.edge refl z, tt));
       }
-  stays Miss x h n k = record { near = all_append (NotBefore t) l (x ∷ []) h.near (n, tt); right = tt }
+  stays None x h n k = record { near = all_append (NotBefore t) l (x ∷ []) h.near (n, tt); right = tt }
 
   -- a nearer edge
-  nearer_so : (c : Cast) (u : Float) (e : ℕ) → So mode l (record { t = t; hit = c }) → lt u t ≡ true
-      → So mode (l ++ (record { edge = e; met = reach.Hit u } ∷ [])) (record { t = u; hit = Hit u e })
+  nearer_so : (c : (Option RayHit)) (u : Float) (e : ℕ) → So mode l (record { t = t; hit = c }) → lt u t ≡ true
+      → So mode (l ++ (record { edge = e; met = Some u } ∷ [])) (record { t = u; hit = hit_at u e })
   nearer_so c u e h q =
-      let x : Tested = record { edge = e; met = reach.Hit u } in
+      let x : Tested = record { edge = e; met = Some u } in
       record {
         near = all_append (NotBefore u) l (x ∷ []) (all_map (NotBefore t) (NotBefore u) (λ y k. nearer_before t u q y.met k) l h.near) (lt_self u, tt);
         right = (
@@ -165,21 +164,21 @@ module _ (mode : ℕ) (l : List Tested) (t : Float) where
       }
 
   -- one as near
-  lower_so : (c : Cast) (u : Float) (e : ℕ) → So mode l (record { t = t; hit = c }) → lt u t ≡ false → eq u t ≡ true
-      → So mode (l ++ (record { edge = e; met = reach.Hit u } ∷ [])) (lower_of c e (record { t = t; hit = c }))
-  lower_so Miss u e h n q = stays Miss (record { edge = e; met = reach.Hit u }) h n (λ w f i. absurd (no_hit w f i))
+  lower_so : (c : (Option RayHit)) (u : Float) (e : ℕ) → So mode l (record { t = t; hit = c }) → lt u t ≡ false → eq u t ≡ true
+      → So mode (l ++ (record { edge = e; met = Some u } ∷ [])) (lower_of c e (record { t = t; hit = c }))
+  lower_so None u e h n q = stays None (record { edge = e; met = Some u }) h n (λ w f i. absurd (no_hit w f i))
     where
-      no_hit : (w : Float) (f : ℕ) → Miss ≡ Hit w f → ⊥
+      no_hit : (w : Float) (f : ℕ) → None ≡ hit_at w f → ⊥
       no_hit w f i = let z : ◌≡◌ {A = ℕ} 0 1 = cc in omega arith
-  lower_so (Hit w f) u e h n q = by (ltb e f) refl
+  lower_so (Some hit) u e h n q = by (ltb e hit.edge) refl
     where
       x : Tested
-      x = record { edge = e; met = reach.Hit u }
+      x = record { edge = e; met = Some u }
 
-      same_number : (v : Float) (i : ℕ) → Hit w f ≡ Hit v i → f ≡ i
+      same_number : (v : Float) (i : ℕ) → hit_at hit.t hit.edge ≡ hit_at v i → hit.edge ≡ i
       same_number v i p = cc
 
-      by : (y : Bool) → ltb e f ≡ y → So mode (l ++ (x ∷ [])) (cond y (record { t = t; hit = Hit w e }) (record { t = t; hit = Hit w f }))
+      by : (y : Bool) → ltb e hit.edge ≡ y → So mode (l ++ (x ∷ [])) (cond y (record { t = t; hit = hit_at hit.t e }) (record { t = t; hit = hit_at hit.t hit.edge }))
       by true p =
           record {
             near = all_append (NotBefore t) l (x ∷ []) h.near (n, tt);
@@ -187,25 +186,25 @@ module _ (mode : ℕ) (l : List Tested) (t : Float) where
               h.right.0,
               one_last t l x q,
               λ z. all_append (NotLower t e) l (x ∷ [])
-                  (all_map (NotLower t f) (NotLower t e) (λ y k a. le_trans (le_of_lt (ltb-true e f p)) (k a)) l (h.right.2 z)) (λ a. le_refl e, tt),
+                  (all_map (NotLower t hit.edge) (NotLower t e) (λ y k a. le_trans (le_of_lt (ltb-true e hit.edge p)) (k a)) l (h.right.2 z)) (λ a. le_refl e, tt),
             );
           }
-      by false p = stays (Hit w f) x h n (λ v i r z a. subst (λ (j : ℕ). j ≤ e) (same_number v i r) (ltb-false e f p))
+      by false p = stays (hit_at hit.t hit.edge) x h n (λ v i r z a. subst (λ (j : ℕ). j ≤ e) (same_number v i r) (ltb-false e hit.edge p))
 
-  step : (c : Cast) (m : Reach) (e : ℕ) → So mode l (record { t = t; hit = c })
+  step : (c : (Option RayHit)) (m : (Option Float)) (e : ℕ) → So mode l (record { t = t; hit = c })
       → So mode (l ++ (record { edge = e; met = m } ∷ [])) (nearer_of mode (record { t = t; hit = c }) m e)
   unfolding nearer_of
-  step c reach.Miss e h = stays c (record { edge = e; met = reach.Miss }) h refl (λ u f i z a. absurd (true≢false (sym a)))
-  step c (reach.Hit u) e h = by (lt u t) refl (eq u t) refl (eqb mode 0) refl
+  step c None e h = stays c (record { edge = e; met = None }) h refl (λ u f i z a. absurd (true≢false (sym a)))
+  step c (Some u) e h = by (lt u t) refl (eq u t) refl (eqb mode 0) refl
     where
       x : Tested
-      x = record { edge = e; met = reach.Hit u }
+      x = record { edge = e; met = Some u }
 
       b : Best
       b = record { t = t; hit = c }
 
       by : (p : Bool) → lt u t ≡ p → (q : Bool) → eq u t ≡ q → (z : Bool) → eqb mode 0 ≡ z
-          → So mode (l ++ (x ∷ [])) (cond p (record { t = u; hit = Hit u e }) (cond q (cond z b (lower_of c e b)) b))
+          → So mode (l ++ (x ∷ [])) (cond p (record { t = u; hit = hit_at u e }) (cond q (cond z b (lower_of c e b)) b))
       by true hp q hq z hz = nearer_so c u e h hp
       by false hp true hq true hz = stays c x h hp (λ w f i n a. absurd (n (eqb-true mode 0 hz)))
       by false hp true hq false hz = lower_so c u e h hp hq
@@ -226,17 +225,17 @@ pub record Nearest (t : Float) (edge : ℕ) (tested : List Tested) : Type 0 wher
   pub nearest : All (λ x. met_before t x.met ≡ false) tested
 
 module _ (g : Grid) (points boxes : List Float) (polygons starts items : List ℕ) (o d : Vec2) (len : Float) (mode : ℕ) (t : Float) (edge : ℕ)
-    (hit : (cast_ray_of g points boxes polygons starts items o d len mode).hit ≡ Hit t edge) where
+    (hit : (cast_ray_of g points boxes polygons starts items o d len mode).hit ≡ hit_at t edge) where
   abbrev tested : List Tested
   tested = cast_tested g points boxes polygons starts items o d len mode
 
   abbrev final : Best
-  final = foldl (counts (nearer_of mode)) (record { t = len; hit = Miss }) tested
+  final = foldl (counts (nearer_of mode)) (record { t = len; hit = None }) tested
 
   ends : So mode tested final
-  ends = fold_so mode tested [] (record { t = len; hit = Miss }) (record { near = tt; right = tt })
+  ends = fold_so mode tested [] (record { t = len; hit = None }) (record { near = tt; right = tt })
 
-  right_at : Right mode tested final.t (Hit t edge)
+  right_at : Right mode tested final.t (hit_at t edge)
   right_at = subst (Right mode tested final.t) (sym (cast_folds g points boxes polygons starts items o d len mode) ∙ hit) ends.right
 
   pub nearest_ray : Nearest t edge tested

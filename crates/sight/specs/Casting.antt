@@ -2,14 +2,12 @@
 -- carries the nearest hit and the ring of the eight ids tested last. Document 01, "Site and grid": "the ring of 8 recent ids is kept. It reports cells entered".
 -- The Rust tells a miss by the edge number u32::MAX; here a hit is a `Cast`. Document 02, Q-3, has a mode decide which of several edges at exactly the same distance is
 -- answered. Each layer takes the rule by which an edge counts, so that the Rust's own rule (specs/Rust.antt) goes through the same layers. Definitions only.
-use Rattle.std.specs.Prelude.{ℕ, zero, suc, ◌+◌, ◌%◌, min, cond, length, set, replicate, eqb, ltb, Float}
+use Rattle.std.specs.Prelude.{ℕ, zero, suc, ◌+◌, ◌%◌, min, cond, length, set, replicate, eqb, ltb, Float, None, Option, Some}
 use mathlib.Core.List.{List, foldl}
 use Rattle.std.specs.Float.Ieee.{lt, eq}
 use Rattle.num.specs.Ops.{◌⊘◌, one_f}
 use Rattle.lists.specs.Members.{holds}
 use Rattle.geom.specs.declared.Vec2.{Vec2}
-use Rattle.geom.specs.declared.Reach.{Reach}
-use Rattle.geom.specs.declared.Reach.TheVariants as reach
 use Rattle.geom.specs.Vec.{vec}
 use Rattle.geom.specs.Box.{corners, corner_of}
 use Rattle.geom.specs.Segment.{ray_segment_of}
@@ -17,8 +15,6 @@ use Rattle.geom.specs.Ring.{corner_before}
 use Rattle.grid.specs.declared.Grid.{Grid}
 use Rattle.grid.specs.Boxes.{box_at}
 use Rattle.grid.specs.Entries.{cell_of}
-use Rattle.site.specs.declared.Cast.{Cast}
-use Rattle.site.specs.declared.Cast.TheVariants.{Hit, Miss}
 use Rattle.site.specs.Tables.{first_of, verts_of}
 use Rattle.walk.specs.Steps.{cell_number, exit_of}
 use Rattle.walk.specs.Tours.{Visitor, Tour, ray_tour, ray_cells}
@@ -28,6 +24,8 @@ use Rattle.sight.specs.declared.Best.{Best}
 use Rattle.sight.specs.declared.Recent.{Recent}
 use Rattle.sight.specs.declared.Look.{Look}
 use Rattle.sight.specs.declared.Sighting.{Sighting}
+use Rattle.site.specs.Hits.{hit_at}
+use Rattle.site.specs.declared.RayHit.{RayHit}
 
 -- the ray from o along d
 abbrev pub ray_of : Vec2 → Vec2 → Ray
@@ -40,12 +38,12 @@ edge_number first i = min (first + i) 4294967295
 
 -- a rule: what the nearest hit is after one edge more, by where the ray meets it and by its number
 abbrev pub Rule : Type 0
-Rule = Best → Reach → ℕ → Best
+Rule = Best → (Option Float) → ℕ → Best
 
 -- the lower of the hit's number and e. Where there is no hit yet it stays a miss: the distance is then the ray's own length
-abbrev pub lower_of : Cast → ℕ → Best → Best
-lower_of (Hit t f) e b = cond (ltb e f) (record { t = b.t; hit = Hit t e }) b
-lower_of Miss e b = b
+abbrev pub lower_of : (Option RayHit) → ℕ → Best → Best
+lower_of (Some h) e b = cond (ltb e h.edge) (record { t = b.t; hit = hit_at h.t e }) b
+lower_of None e b = b
 
 -- an edge e at exactly the distance of the nearest hit: in mode 0 the one found first stays, in any other the lower one
 abbrev pub level_of : ℕ → Best → ℕ → Best
@@ -53,8 +51,8 @@ level_of mode b e = cond (eqb mode 0) b (lower_of b.hit e b)
 
 -- THE RULE of a mode: the nearest hit after the edge e is met, or missed
 unfoldable pub nearer_of : ℕ → Rule
-nearer_of mode b (reach.Hit t) e = cond (lt t b.t) (record { t = t; hit = Hit t e }) (cond (eq t b.t) (level_of mode b e) b)
-nearer_of mode b reach.Miss e = b
+nearer_of mode b (Some t) e = cond (lt t b.t) (record { t = t; hit = hit_at t e }) (cond (eq t b.t) (level_of mode b e) b)
+nearer_of mode b None e = b
 
 -- the nearest hit after the first k edges of a ring of corners, the closing edge first: edge i ends at corner i, and starts at the corner before it
 unfoldable pub edges_up_to : Rule → Ray → List Float → ℕ → Best → ℕ → Best
@@ -99,7 +97,7 @@ looker rule ray points boxes polygons starts items = record {
 
 -- before the first cell: no hit, and nothing nearer than the ray's length
 abbrev pub look_first : Float → Look
-look_first len = record { best = record { t = len; hit = Miss }; recent = recent_none }
+look_first len = record { best = record { t = len; hit = None }; recent = recent_none }
 
 -- the nearest hit, and the number of cells entered
 unfoldable pub sighting_of : Tour Look → Sighting

@@ -1,12 +1,11 @@
 -- THE EDGES THAT A CAST TESTS, in the order in which it tests them: in each cell that it enters, those of each polygon that is not in the ring of recent ids and whose
 -- box passes the box test. Document 02, Q-3: "The single ray takes the lowest edge too, among the edges it tests". The log stands beside the cast
 -- and does not touch it. That the cast is the fold of its rule over this list, and which of these edges it answers, is proofs/Lowest.antt. Definitions only.
-use Rattle.std.specs.Prelude.{ℕ, zero, suc, cond, Float}
+use Rattle.std.specs.Prelude.{ℕ, zero, suc, cond, Float, Option}
 use mathlib.Core.List.{List, [], ◌∷◌, ◌++◌, foldl}
 use Rattle.std.specs.Float.Ieee.{lt}
 use Rattle.lists.specs.Members.{holds}
 use Rattle.geom.specs.declared.Vec2.{Vec2}
-use Rattle.geom.specs.declared.Reach.{Reach}
 use Rattle.geom.specs.Box.{corners, corner_of}
 use Rattle.geom.specs.Segment.{ray_segment_of}
 use Rattle.geom.specs.Ring.{corner_before}
@@ -24,7 +23,7 @@ use Rattle.sight.specs.Casting.{Rule, ray_of, edge_number, nearer_of, item_seen,
 -- an edge that was tested: its number, and where the ray meets it
 pub record Tested : Type 0 where
   pub edge : ℕ
-  pub met : Reach
+  pub met : Option Float
 
 -- the first k edges of a ring of corners, the closing edge first
 unfoldable pub edges_tested : Ray → List Float → ℕ → ℕ → List Tested

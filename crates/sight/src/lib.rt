@@ -14,10 +14,10 @@ ghost use Rattle.sight.specs.Slabs.{ray_hits_aabb_of};
 ghost use Rattle.sight.specs.Holding.{holds_point, higher_of, with_id, highest, polygon_at_of};
 ghost use Rattle.sight.specs.Casting.{ray_of, edge_number, level_of, nearer_of, edges_met, recent_none, pushed, item_seen, items_seen, looker, look_first, sighting_of, cast_ray_of};
 
-use geom::{Aabb, Reach, Vec2};
+use geom::{Aabb, Vec2};
 use grid::Grid;
-use site::Cast;
-use walk::{Course, Place, Start, Step};
+use site::{RayHit, SiteTables};
+use walk::{Course, Place};
 
 // ---- the box test
 
@@ -37,82 +37,50 @@ fn ray_hits_aabb(o: Vec2, inv: Vec2, b: Aabb, t_max: f64) -> bool
 
 // ---- the polygon at a point
 
-// The polygon that holds a point: the Rust's `Option<u32>`.
-#[derive(Clone, Copy)]
-pub enum Whose {
-    Id(u32),
-    Nobody,
-}
-
 // Do the polygon's box and its points hold p?
-fn holds_point(points: &[f64], boxes: &[f64], polygons: &[u32], p: Vec2, id: u32) -> bool
-    ensures { result ≡ holds_point points.now boxes.now polygons.now p id }
+fn holds_point(tables: &SiteTables, p: Vec2, id: u32) -> bool
+    ensures { result ≡ holds_point tables.now.points.now tables.now.boxes.now tables.now.polygons.now p id }
 {
-    if !grid::box_at(boxes, lists::wide(id)).contains(p) {
-        return false;
-    }
-    geom::point_in_polygon(p, site::verts_of(points, polygons, id))
+    grid::box_at(tables.boxes, id as usize).contains(p)
+        && geom::point_in_polygon(p, site::verts_of(tables.points, tables.polygons, id))
 }
 
 // The higher of an id found before and one more.
-fn higher(w: Whose, id: u32) -> Whose
+fn higher(w: Option<u32>, id: u32) -> Option<u32>
     ensures { result ≡ higher_of w id }
 {
     match w {
-        Whose::Id(k) => {
-            if k < id {
-                return Whose::Id(id);
-            }
-            return Whose::Id(k);
-        }
-        Whose::Nobody => {
-            return Whose::Id(id);
-        }
+        Some(k) => Some(k.max(id)),
+        None => Some(id),
     }
 }
 
 // One id more, if its polygon holds p.
-fn with_id(points: &[f64], boxes: &[f64], polygons: &[u32], p: Vec2, w: Whose, id: u32) -> Whose
-    ensures { result ≡ with_id points.now boxes.now polygons.now p w id }
+fn with_id(tables: &SiteTables, p: Vec2, w: Option<u32>, id: u32) -> Option<u32>
+    ensures { result ≡ with_id tables.now.points.now tables.now.boxes.now tables.now.polygons.now p w id }
 {
-    if !holds_point(points, boxes, polygons, p, id) {
-        return w;
+    if holds_point(tables, p, id) {
+        return higher(w, id);
     }
-    higher(w, id)
+    w
 }
 
 // The highest of the ids whose polygon holds p.
-fn highest_of(points: &[f64], boxes: &[f64], polygons: &[u32], ids: &[u32], p: Vec2) -> Whose
-    ensures { result ≡ highest (filter (holds_point points.now boxes.now polygons.now p) ids.now) }
+fn highest_of(tables: &SiteTables, ids: &[u32], p: Vec2) -> Option<u32>
+    ensures { result ≡ highest (filter (holds_point tables.now.points.now tables.now.boxes.now tables.now.polygons.now p) ids.now) }
 {
-    let mut w = Whose::Nobody;
-    let mut i: usize = 0;
-    while i < ids.len() {
-        w = with_id(points, boxes, polygons, p, w, ids[i]);
-        i += 1;
+    let mut w = None;
+    for id in ids {
+        w = with_id(tables, p, w, *id);
     }
     w
 }
 
 // The top-most polygon that holds p: the highest id in the point's cell.
-pub fn polygon_at(
-    g: Grid,
-    points: &[f64],
-    boxes: &[f64],
-    polygons: &[u32],
-    starts: &[u32],
-    items: &[u32],
-    p: Vec2,
-) -> Whose
-    ensures { result ≡ polygon_at_of g points.now boxes.now polygons.now starts.now items.now p }
+pub fn polygon_at(g: Grid, tables: &SiteTables, p: Vec2) -> Option<u32>
+    ensures { result ≡ polygon_at_of g tables.now.points.now tables.now.boxes.now tables.now.polygons.now tables.now.starts.now tables.now.items.now p }
 {
-    highest_of(
-        points,
-        boxes,
-        polygons,
-        grid::items_at(g, starts, items, p),
-        p,
-    )
+    highest_of(tables, grid::items_at(g, tables.starts, tables.items, p), p)
 }
 
 // ---- a ray
@@ -129,14 +97,14 @@ struct Ray {
 #[derive(Clone, Copy)]
 struct Best {
     t: f64,
-    hit: Cast,
+    hit: Option<RayHit>,
 }
 
 // The Rust's tiny mailbox, `recent` and `slot`: the ids of the last eight polygons tested, and how many places of it were filled last.
 #[derive(Clone, Copy)]
 struct Recent {
     ids: [u32; 8],
-    slot: u32,
+    slot: usize,
 }
 
 // What the walk carries from polygon to polygon.
@@ -149,7 +117,7 @@ struct Look {
 // What a cast answers: the nearest hit, and how many cells the walk entered.
 #[derive(Clone, Copy)]
 pub struct Sighting {
-    pub hit: Cast,
+    pub hit: Option<RayHit>,
     pub cells: usize,
 }
 
@@ -157,7 +125,7 @@ pub struct Sighting {
 fn edge_number(first: u32, i: usize) -> u32
     ensures { result ≡ edge_number first i }
 {
-    if i < lists::wide(4294967295 - first) {
+    if i < (4294967295 - first) as usize {
         return first + i as u32;
     }
     4294967295
@@ -170,43 +138,29 @@ fn level(best: Best, e: u32, mode: u32) -> Best
     if mode == 0 {
         return best;
     }
-    let hit = best.hit;
-    match hit {
-        Cast::Hit(t, f) => {
-            if e < f {
-                return Best {
-                    t: best.t,
-                    hit: Cast::Hit(t, e),
-                };
-            }
-            return best;
-        }
-        Cast::Miss => {
-            return best;
-        }
+    match best.hit {
+        Some(hit) if e < hit.edge => Best {
+            hit: Some(RayHit { edge: e, ..hit }),
+            ..best
+        },
+        _ => best,
     }
 }
 
 // The nearest hit after one edge more, which starts at the point i of a polygon. The mode is looked at only where two distances are equal.
-fn nearer(best: Best, met: Reach, first: u32, i: usize, mode: u32) -> Best
+fn nearer(best: Best, met: Option<f64>, first: u32, i: usize, mode: u32) -> Best
     ensures { result ≡ nearer_of mode best met (edge_number first i) }
 {
     match met {
-        Reach::Hit(t) => {
-            if t < best.t {
-                return Best {
-                    t,
-                    hit: Cast::Hit(t, edge_number(first, i)),
-                };
-            }
-            if t == best.t {
-                return level(best, edge_number(first, i), mode);
-            }
-            return best;
-        }
-        Reach::Miss => {
-            return best;
-        }
+        Some(t) if t < best.t => Best {
+            t,
+            hit: Some(RayHit {
+                t,
+                edge: edge_number(first, i),
+            }),
+        },
+        Some(t) if t == best.t => level(best, edge_number(first, i), mode),
+        _ => best,
     }
 }
 
@@ -215,14 +169,13 @@ fn test_edges(ray: Ray, ring: &[f64], first: u32, start: Best, mode: u32) -> Bes
     ensures { result ≡ edges_met (nearer_of mode) ray ring.now first start }
 {
     let n = ring.len() / 2;
-    let mut best = start;
     if n == 0 {
-        return best;
+        return start;
     }
+    let mut best = start;
     let mut prev = n - 1;
     let mut a = geom::corner(ring, prev);
-    let mut k: usize = 0;
-    while k < n {
+    for k in 0..n {
         let b = geom::corner(ring, k);
         best = nearer(
             best,
@@ -233,7 +186,6 @@ fn test_edges(ray: Ray, ring: &[f64], first: u32, start: Best, mode: u32) -> Bes
         );
         prev = k;
         a = b;
-        k += 1;
     }
     best
 }
@@ -248,44 +200,26 @@ impl Recent {
         }
     }
 
-    // The Rust's `recent.contains(&id)`, without a branch.
+    // The Rust's `recent.contains(&id)`.
     fn has(self, id: u32) -> bool
         ensures { result ≡ holds id self.ids }
     {
-        let ids = self.ids;
-        (id == ids[0])
-            | (id == ids[1])
-            | (id == ids[2])
-            | (id == ids[3])
-            | (id == ids[4])
-            | (id == ids[5])
-            | (id == ids[6])
-            | (id == ids[7])
+        self.ids.contains(&id)
     }
 
-    fn push(self, id: u32) -> Recent
+    fn push(mut self, id: u32) -> Recent
         ensures { result ≡ pushed self id }
     {
         let at = self.slot % 8;
-        let i = lists::wide(at);
-        let mut out = self;
-        out.ids[i] = id;
-        out.slot = at + 1;
-        out
+        self.ids[at] = id;
+        self.slot = at + 1;
+        self
     }
 }
 
 // One polygon of a cell: passed over if it was tested lately. The mailbox is filled before the box is tested.
-fn test_item(
-    ray: Ray,
-    points: &[f64],
-    boxes: &[f64],
-    polygons: &[u32],
-    s: Look,
-    id: u32,
-    mode: u32,
-) -> Look
-    ensures { result ≡ item_seen (nearer_of mode) ray points.now boxes.now polygons.now s id }
+fn test_item(ray: Ray, tables: &SiteTables, s: Look, id: u32, mode: u32) -> Look
+    ensures { result ≡ item_seen (nearer_of mode) ray tables.now.points.now tables.now.boxes.now tables.now.polygons.now s id }
 {
     let recent = s.recent;
     if recent.has(id) {
@@ -293,7 +227,12 @@ fn test_item(
     }
     let best = s.best;
     let filled = recent.push(id);
-    if !ray_hits_aabb(ray.o, ray.inv, grid::box_at(boxes, lists::wide(id)), best.t) {
+    if !ray_hits_aabb(
+        ray.o,
+        ray.inv,
+        grid::box_at(tables.boxes, id as usize),
+        best.t,
+    ) {
         return Look {
             best,
             recent: filled,
@@ -301,8 +240,8 @@ fn test_item(
     }
     let nearest = test_edges(
         ray,
-        site::verts_of(points, polygons, id),
-        site::first_of(polygons, id),
+        site::verts_of(tables.points, tables.polygons, id),
+        site::first_of(tables.polygons, id),
         best,
         mode,
     );
@@ -313,22 +252,12 @@ fn test_item(
 }
 
 // The polygons of a cell, in the order of its ids.
-fn test_items(
-    ray: Ray,
-    points: &[f64],
-    boxes: &[f64],
-    polygons: &[u32],
-    ids: &[u32],
-    start: Look,
-    mode: u32,
-) -> Look
-    ensures { result ≡ items_seen (nearer_of mode) ray points.now boxes.now polygons.now start ids.now }
+fn test_items(ray: Ray, tables: &SiteTables, ids: &[u32], start: Look, mode: u32) -> Look
+    ensures { result ≡ items_seen (nearer_of mode) ray tables.now.points.now tables.now.boxes.now tables.now.polygons.now start ids.now }
 {
     let mut s = start;
-    let mut i: usize = 0;
-    while i < ids.len() {
-        s = test_item(ray, points, boxes, polygons, s, ids[i], mode);
-        i += 1;
+    for id in ids {
+        s = test_item(ray, tables, s, *id, mode);
     }
     s
 }
@@ -337,59 +266,43 @@ fn test_items(
 // each cell costs time.
 fn look_along(
     ray: Ray,
-    points: &[f64],
-    boxes: &[f64],
-    polygons: &[u32],
-    starts: &[u32],
-    items: &[u32],
+    tables: &SiteTables,
     k: Course,
     start: Place,
     first: Look,
     mode: u32,
 ) -> Sighting
     requires { OnGrid k start }
-    ensures { result ≡ sighting_of (tour (looker (nearer_of mode) ray points.now boxes.now polygons.now starts.now items.now) k start first) }
+    ensures { result ≡ sighting_of (tour (looker (nearer_of mode) ray tables.now.points.now tables.now.boxes.now tables.now.polygons.now tables.now.starts.now tables.now.items.now) k start first) }
 {
     let mut s = first;
     let mut p = start;
     let mut cells: usize = 0;
     loop {
-        let ids = grid::cell_items(starts, items, walk::cell_of(k, p));
-        s = test_items(ray, points, boxes, polygons, ids, s, mode);
+        let ids = grid::cell_items(tables.starts, tables.items, walk::cell_of(k, p));
+        s = test_items(ray, tables, ids, s, mode);
         cells += 1;
         if !(s.best.t > walk::exit_of(k, p)) {
-            let best = s.best;
-            let hit = best.hit;
-            return Sighting { hit, cells };
+            return Sighting {
+                hit: s.best.hit,
+                cells,
+            };
         }
-        let step = walk::advance(k, p);
-        match step {
-            Step::Next(q) => {
-                p = q;
-            }
-            Step::Stop => {
-                let best = s.best;
-                let hit = best.hit;
-                return Sighting { hit, cells };
+        match walk::advance(k, p) {
+            Some(q) => p = q,
+            None => {
+                return Sighting {
+                    hit: s.best.hit,
+                    cells,
+                };
             }
         }
     }
 }
 
 // The nearest edge that the ray `o + t * d`, t up to `length`, hits, found by walking the cells along the ray. Of several at that distance the mode decides.
-pub fn cast_ray(
-    g: Grid,
-    points: &[f64],
-    boxes: &[f64],
-    polygons: &[u32],
-    starts: &[u32],
-    items: &[u32],
-    o: Vec2,
-    d: Vec2,
-    length: f64,
-    mode: u32,
-) -> Sighting
-    ensures { result ≡ cast_ray_of g points.now boxes.now polygons.now starts.now items.now o d length mode }
+pub fn cast_ray(g: Grid, tables: &SiteTables, o: Vec2, d: Vec2, length: f64, mode: u32) -> Sighting
+    ensures { result ≡ cast_ray_of g tables.now.points.now tables.now.boxes.now tables.now.polygons.now tables.now.starts.now tables.now.items.now o d length mode }
 {
     let ray = Ray {
         o,
@@ -403,22 +316,15 @@ pub fn cast_ray(
     let first = Look {
         best: Best {
             t: length,
-            hit: Cast::Miss,
+            hit: None,
         },
         recent,
     };
-    let s = walk::traverse_ray(g, o, d, length);
-    match s {
-        Start::From(k, p) => {
-            return look_along(
-                ray, points, boxes, polygons, starts, items, k, p, first, mode,
-            );
-        }
-        Start::Miss => {
-            return Sighting {
-                hit: Cast::Miss,
-                cells: 0,
-            };
-        }
+    match walk::traverse_ray(g, o, d, length) {
+        Some((k, p)) => look_along(ray, tables, k, p, first, mode),
+        None => Sighting {
+            hit: None,
+            cells: 0,
+        },
     }
 }

@@ -2,7 +2,6 @@
 pub mod Accessing
 pub mod Distances
 pub mod Falling
-pub mod Ways
 pub mod SoundLaws
 pub mod PlainLaws
 pub mod Shares

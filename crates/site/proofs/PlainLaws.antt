@@ -1,12 +1,12 @@
 -- WHAT THE SHORTER TEST GIVES, where points and polygons alone are lent (document 02, Q-6): `plain` and `plain_tested`, the record `SoundPlain` from the test and the test from the record;
--- `sound_plain_lem`: sound tables pass it, so that what is refused as 6 without tables is refused as 6 with them. Beside it the ways through the test. Assumes nothing.
+-- `sound_plain_lem`: sound tables pass it, so that what is refused as 6 without tables is refused as 6 with them. Assumes nothing.
 use mathlib.Core.Path.{◌≡◌, ◌∙◌}
-use mathlib.Core.Bool.{true, false, and-true, and-false}
+use mathlib.Core.Bool.{true, and-true}
 use mathlib.Core.List.{List}
-use Prim.Native.Nat.{ℕ, ◌*◌, ◌≤◌, ◌<◌}
+use Prim.Native.Nat.{ℕ, ◌*◌, ◌≤◌}
 use lib.ListN.{length}
 use lib.Ieee.{Float}
-use borrow.Author.Tests.{leb-true, le-leb, lt-leb}
+use borrow.Author.Tests.{leb-true, le-leb}
 use Rattle.lists.proofs.AllTo.{both}
 use Rattle.site.specs.declared.Site.{Site}
 use Rattle.site.specs.Tables.{Tables, point_stride, polygon_stride}
@@ -15,36 +15,8 @@ use Rattle.site.specs.Soundness.{counts_within, points_in_domain, cell_right, ce
 use Rattle.site.proofs.SoundLaws.{few, points_are_in, cell_is, cells_in, parts_in, counts_pass, points_pass, cell_passes, cells_pass, parts_pass}
 
 module _ (s : Site) (points : List Float) (polygons : List ℕ) where
-  -- ---- the ways through the test
-  pub no_points : length points < point_stride * s.points → sound_plain s points polygons ≡ false
-  unfolding sound_plain
-  no_points h = simp (lt-leb _ _ h)
-
-  pub no_polygons : length polygons < polygon_stride * s.polygons → sound_plain s points polygons ≡ false
-  unfolding sound_plain
-  no_polygons h = simp (lt-leb _ _ h, and-false)
-
-  pub no_counts : counts_within s ≡ false → sound_plain s points polygons ≡ false
-  unfolding sound_plain
-  no_counts e = simp (e, and-false)
-
-  pub no_origin : point_in_domain s.grid.origin ≡ false → sound_plain s points polygons ≡ false
-  unfolding sound_plain
-  no_origin e = simp (e, and-false)
-
-  pub no_cell : cell_right s.grid ≡ false → sound_plain s points polygons ≡ false
-  unfolding sound_plain
-  no_cell e = simp (e, and-false)
-
-  pub no_cells : cells_within s ≡ false → sound_plain s points polygons ≡ false
-  unfolding sound_plain
-  no_cells e = simp (e, and-false)
-
-  pub no_domain : points_in_domain s.points points ≡ false → sound_plain s points polygons ≡ false
-  unfolding sound_plain
-  no_domain e = simp (e, and-false)
-
-  pub by_parts : point_stride * s.points ≤ length points → polygon_stride * s.polygons ≤ length polygons → counts_within s ≡ true → point_in_domain s.grid.origin ≡ true → cell_right s.grid ≡ true → cells_within s ≡ true
+  -- ---- the last line decides where the others pass
+  by_parts : point_stride * s.points ≤ length points → polygon_stride * s.polygons ≤ length polygons → counts_within s ≡ true → point_in_domain s.grid.origin ≡ true → cell_right s.grid ≡ true → cells_within s ≡ true
       → points_in_domain s.points points ≡ true → sound_plain s points polygons ≡ parts_inside s.polygons s.points polygons
   unfolding sound_plain
   by_parts a b c d e f g = simp (le-leb _ _ a, le-leb _ _ b, c, d, e, f, g, and-true)

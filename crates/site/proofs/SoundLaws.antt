@@ -2,7 +2,7 @@
 use Prim.Native.Nat.{ℕ, ◌+◌, ◌-◌, ◌*◌, ◌≤◌, ◌<◌, min}
 use mathlib.Core.Path.{◌≡◌, refl, subst, ◌∙◌}
 use mathlib.Core.Logic.{⊎_elim}
-use mathlib.Core.Bool.{Bool, true, false, ◌&&◌, cond}
+use mathlib.Core.Bool.{Bool, true, false, ◌&&◌, cond, and-true}
 use native.Mathlib.Numerals.{add-one}
 use native.Mathlib.Nat.{le_trans, le_of_eq}
 use native.Mathlib.Omega.{arith}
@@ -23,7 +23,6 @@ use Rattle.site.specs.Tables.{Tables, point_stride, polygon_stride, first_of, le
 use Rattle.site.specs.Soundness.{tables_long, counts_within, head_in_domain, points_in_domain, cell_right, same_box, box_right, boxes_right, cells_within, never_fall, starts_right, item_right, items_right, parts_inside, owned, all_owned, owns, all_own, sound_of, Sound}
 use Rattle.lists.proofs.Cases.{lt_or_le}
 use Rattle.lists.proofs.AllTo.{both, all_to_at, all_to_lem}
-use Rattle.site.proofs.Ways.{by_items}
 
 -- the twelve lines, apart
 pub record Lines (s : Site) (t : Tables) : Type 0 where
@@ -68,6 +67,15 @@ lines s t e =
       owned = b.1;
       own = a.1;
     }
+
+-- the items decide where the other lines pass
+by_items : (s : Site) (t : Tables) → tables_long s t ≡ true → counts_within s ≡ true → head_in_domain s ≡ true → points_in_domain s.points t.points ≡ true
+    → cell_right s.grid ≡ true → boxes_right s.polygons t.points t.boxes t.polygons ≡ true → cells_within s ≡ true
+    → starts_right (cells_of s) s.items t.starts ≡ true → parts_inside s.polygons s.points t.polygons ≡ true
+    → all_owned s.polygons s.points t.polygons t.owners ≡ true → all_own s.polygons t.polygons t.owners ≡ true
+    → sound_of s t ≡ items_right s.items s.polygons t.polygons t.items
+unfolding sound_of
+by_items s t a b c d e f g h i j k = simp (a, b, c, d, e, f, g, h, i, j, k, and-true)
 
 -- ---- line by line
 pub record Long (s : Site) (t : Tables) : Type 0 where

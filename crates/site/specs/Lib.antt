@@ -4,3 +4,4 @@ pub mod Domain
 pub mod Soundness
 pub mod Checks
 pub mod Meets
+pub mod Hits

@@ -10,6 +10,7 @@ use Rattle.geom.specs.Vec.{vec}
 use Rattle.extent.specs.Boxes.{polygon_box_of}
 use Rattle.site.specs.declared.Site.{Site}
 use Rattle.site.specs.declared.Ends.{Ends}
+use Rattle.site.specs.declared.SiteTables.{SiteTables}
 
 -- the lent tables, in the order in which every function takes them
 pub record Tables : Type 0 where
@@ -29,6 +30,10 @@ tables points boxes polygons owners starts items = record {
   starts = starts;
   items = items;
 }
+
+-- those that are lent together
+abbrev pub tables_of : SiteTables → Tables
+tables_of t = tables t.points.now t.boxes.now t.polygons.now t.owners.now t.starts.now t.items.now
 
 -- ---- how many numbers an entry has
 -- a point: x, y

@@ -5,8 +5,8 @@
 // Meanings: specs/Tables.antt (fields), specs/Domain.antt (input numbers), specs/Soundness.antt (sound tables).
 #![tactic(auto)]
 
-ghost use Rattle.std.specs.Prelude.{◌≡◌, ◌-◌, ◌<◌, length};
-ghost use Rattle.site.specs.Tables.{tables, first_of, len_of, point_at, owner_at, start_at, item_at, verts_of, box_of, edge_end_of, edge_of, cells_of};
+ghost use Rattle.std.specs.Prelude.{◌≡◌, ℕ, ◌+◌, ◌-◌, ◌<◌, ◌≤◌, length};
+ghost use Rattle.site.specs.Tables.{tables_of, first_of, len_of, point_at, owner_at, start_at, item_at, verts_of, box_of, edge_end_of, edge_of, cells_of};
 ghost use Rattle.site.specs.Domain.{point_in_domain, box_in_domain, load_of, load_point_of, load_box_of};
 ghost use Rattle.site.specs.Soundness.{tables_long, counts_within, head_in_domain, points_in_domain, cell_right, same_box, boxes_right, cells_within, never_fall, starts_right, item_right, items_right, parts_inside, owned, all_owned, owns, all_own, sound_of, sound_plain};
 
@@ -31,11 +31,11 @@ pub struct Site {
     pub items: u32,
 }
 
-// What a cast answers: the distance and the number of the edge that is hit, or a miss. The Rust's `Option<RayHit>`.
+// What a ray hits: the distance along it, and the edge.
 #[derive(Clone, Copy)]
-pub enum Cast {
-    Hit(f64, u32),
-    Miss,
+pub struct RayHit {
+    pub t: f64,
+    pub edge: u32,
 }
 
 // The end points of an edge: the pair that the Rust's `edge` answers.
@@ -43,6 +43,17 @@ pub enum Cast {
 pub struct Ends {
     pub a: Vec2,
     pub b: Vec2,
+}
+
+// The six lent tables of a site. Points and items have lifetimes of their own, since parts of them are answered.
+#[derive(Clone, Copy)]
+pub struct SiteTables<'a, 'points, 'items> {
+    pub points: &'points [f64],
+    pub boxes: &'a [f64],
+    pub polygons: &'a [u32],
+    pub owners: &'a [u32],
+    pub starts: &'a [u32],
+    pub items: &'items [u32],
 }
 
 // ---- the fields
@@ -58,24 +69,24 @@ pub fn cells_of(site: Site) -> usize
 pub fn first_of(polygons: &[u32], k: u32) -> u32
     ensures { result ≡ first_of polygons.now k }
 {
-    lists::at32(polygons, POLYGON * lists::wide(k))
+    lists::at(polygons, POLYGON * k as usize)
 }
 
 // How many points the polygon k has.
 pub fn len_of(polygons: &[u32], k: u32) -> u32
     ensures { result ≡ len_of polygons.now k }
 {
-    lists::at32(polygons, POLYGON * lists::wide(k) + 1)
+    lists::at(polygons, POLYGON * k as usize + 1)
 }
 
 // The point i.
 pub fn point_at(points: &[f64], i: u32) -> Vec2
     ensures { result ≡ point_at points.now i }
 {
-    let at = POINT * lists::wide(i);
+    let at = POINT * i as usize;
     Vec2 {
-        x: lists::at64(points, at),
-        y: lists::at64(points, at + 1),
+        x: lists::at(points, at),
+        y: lists::at(points, at + 1),
     }
 }
 
@@ -83,31 +94,31 @@ pub fn point_at(points: &[f64], i: u32) -> Vec2
 pub fn owner_at(owners: &[u32], i: usize) -> u32
     ensures { result ≡ owner_at owners.now i }
 {
-    lists::at32(owners, i)
+    lists::at(owners, i)
 }
 
 // Where the items of the cell c start.
 pub fn start_at(starts: &[u32], c: usize) -> u32
     ensures { result ≡ start_at starts.now c }
 {
-    lists::at32(starts, c)
+    lists::at(starts, c)
 }
 
 // The item i.
 pub fn item_at(items: &[u32], i: usize) -> u32
     ensures { result ≡ item_at items.now i }
 {
-    lists::at32(items, i)
+    lists::at(items, i)
 }
 
 // The points of the polygon k, as a part of the point list: as much of it as was lent.
 pub fn verts_of<'a>(points: &'a [f64], polygons: &[u32], k: u32) -> &'a [f64]
     ensures { result.now ≡ verts_of points.now polygons.now k }
 {
-    let first = lists::wide(first_of(polygons, k));
-    let len = lists::wide(len_of(polygons, k));
-    let a = lists::least(POINT * first, points.len());
-    let z = lists::least(POINT * (first + len), points.len());
+    let first = first_of(polygons, k) as usize;
+    let len = len_of(polygons, k) as usize;
+    let a = (POINT * first).min(points.len());
+    let z = (POINT * (first + len)).min(points.len());
     &points[a..z]
 }
 
@@ -122,17 +133,14 @@ pub fn box_of(points: &[f64], polygons: &[u32], k: u32) -> Aabb
 pub fn edge_end(polygons: &[u32], owners: &[u32], edge: u32) -> u32
     ensures { result ≡ edge_end_of polygons.now owners.now edge }
 {
-    let at = lists::wide(edge);
+    let at = edge as usize;
     let owner = owner_at(owners, at);
     let first = first_of(polygons, owner);
     let len = len_of(polygons, owner);
-    if at + 1 == lists::wide(first) + lists::wide(len) {
+    if at + 1 == first as usize + len as usize {
         return first;
     }
-    if edge < 4294967295 {
-        return edge + 1;
-    }
-    edge
+    edge.saturating_add(1)
 }
 
 // The end points of the edge.
@@ -190,23 +198,15 @@ pub fn load_box(b: Aabb) -> Aabb
 // work, in `all_own` and between the lines, it does.
 
 // No slice is shorter than its table.
-fn tables_long(
-    site: Site,
-    points: &[f64],
-    boxes: &[f64],
-    polygons: &[u32],
-    owners: &[u32],
-    starts: &[u32],
-    items: &[u32],
-) -> bool
-    ensures { result ≡ tables_long site (tables points.now boxes.now polygons.now owners.now starts.now items.now) }
+fn tables_long(site: Site, t: SiteTables) -> bool
+    ensures { result ≡ tables_long site (tables_of t.entry) }
 {
-    (POINT * site.points as usize <= points.len())
-        & (BOX * site.polygons as usize <= boxes.len())
-        & (POLYGON * site.polygons as usize <= polygons.len())
-        & (site.points as usize <= owners.len())
-        & (cells_of(site) < starts.len())
-        & (site.items as usize <= items.len())
+    (POINT * site.points as usize <= t.points.len())
+        & (BOX * site.polygons as usize <= t.boxes.len())
+        & (POLYGON * site.polygons as usize <= t.polygons.len())
+        & (site.points as usize <= t.owners.len())
+        & (cells_of(site) < t.starts.len())
+        & (site.items as usize <= t.items.len())
 }
 
 fn counts_within(site: Site) -> bool
@@ -226,10 +226,8 @@ fn points_in_domain(n: u32, points: &[f64]) -> bool
     ensures { result ≡ points_in_domain n points.now }
 {
     let mut ok = true;
-    let mut i: u32 = 0;
-    while i < n {
-        ok = ok & point_in_domain(point_at(points, i));
-        i += 1;
+    for i in 0..n {
+        ok &= point_in_domain(point_at(points, i));
     }
     ok
 }
@@ -251,14 +249,8 @@ fn boxes_right(n: u32, points: &[f64], boxes: &[f64], polygons: &[u32]) -> bool
     ensures { result ≡ boxes_right n points.now boxes.now polygons.now }
 {
     let mut ok = true;
-    let mut k: u32 = 0;
-    while k < n {
-        ok = ok
-            & same_box(
-                grid::box_at(boxes, lists::wide(k)),
-                box_of(points, polygons, k),
-            );
-        k += 1;
+    for k in 0..n {
+        ok &= same_box(grid::box_at(boxes, k as usize), box_of(points, polygons, k));
     }
     ok
 }
@@ -269,18 +261,13 @@ fn cells_within(site: Site) -> bool
     (1 <= site.grid.cols) & (1 <= site.grid.rows) & (cells_of(site) <= 1048576)
 }
 
-// The slice is the table itself, no longer: the loop's own test is then the reads', and it runs without a branch.
+// The slice is the table itself, no longer, and the loop runs without a branch.
 fn never_fall(starts: &[u32]) -> bool
     ensures { result ≡ never_fall (length starts.now - 1) starts.now }
 {
     let mut ok = true;
-    let mut last = start_at(starts, 0);
-    let mut c: usize = 1;
-    while c < starts.len() {
-        let next = start_at(starts, c);
-        ok = ok & (last <= next);
-        last = next;
-        c += 1;
+    for pair in starts.windows(2) {
+        ok &= pair[0] <= pair[1];
     }
     ok
 }
@@ -291,9 +278,8 @@ fn starts_right(site: Site, starts: &[u32]) -> bool
     ensures { result ≡ starts_right (cells_of site) site.items starts.now }
 {
     let cells = cells_of(site);
-    let end = cells + 1;
     (start_at(starts, 0) == 0)
-        & never_fall(&starts[0..end])
+        & never_fall(&starts[..=cells])
         & (start_at(starts, cells) == site.items)
 }
 
@@ -303,15 +289,14 @@ fn item_right(n: u32, polygons: &[u32], k: u32) -> bool
     (k < n) & (3 <= len_of(polygons, k))
 }
 
+// `tables_long` is tested before it.
 fn items_right(count: u32, n: u32, polygons: &[u32], items: &[u32]) -> bool
+    requires { count ≤ length items.now }
     ensures { result ≡ items_right count n polygons.now items.now }
 {
-    let end = lists::wide(count);
     let mut ok = true;
-    let mut i: usize = 0;
-    while i < end {
-        ok = ok & item_right(n, polygons, item_at(items, i));
-        i += 1;
+    for &k in &items[..count as usize] {
+        ok &= item_right(n, polygons, k);
     }
     ok
 }
@@ -319,12 +304,9 @@ fn items_right(count: u32, n: u32, polygons: &[u32], items: &[u32]) -> bool
 fn parts_inside(n: u32, m: u32, polygons: &[u32]) -> bool
     ensures { result ≡ parts_inside n m polygons.now }
 {
-    let end = lists::wide(m);
     let mut ok = true;
-    let mut k: u32 = 0;
-    while k < n {
-        ok = ok & (lists::wide(first_of(polygons, k)) + lists::wide(len_of(polygons, k)) <= end);
-        k += 1;
+    for k in 0..n {
+        ok &= first_of(polygons, k) as usize + len_of(polygons, k) as usize <= m as usize;
     }
     ok
 }
@@ -334,100 +316,65 @@ fn is_owned(n: u32, polygons: &[u32], owners: &[u32], i: usize) -> bool
     ensures { result ≡ owned n polygons.now owners.now i }
 {
     let k = owner_at(owners, i);
-    let first = lists::wide(first_of(polygons, k));
-    let len = lists::wide(len_of(polygons, k));
+    let first = first_of(polygons, k) as usize;
+    let len = len_of(polygons, k) as usize;
     (k < n) & (first <= i) & (i < first + len)
 }
 
 fn all_owned(n: u32, m: u32, polygons: &[u32], owners: &[u32]) -> bool
     ensures { result ≡ all_owned n m polygons.now owners.now }
 {
-    let end = lists::wide(m);
     let mut ok = true;
-    let mut i: usize = 0;
-    while i < end {
-        ok = ok & is_owned(n, polygons, owners, i);
-        i += 1;
+    for i in 0..m as usize {
+        ok &= is_owned(n, polygons, owners, i);
     }
     ok
 }
 
-// Does the polygon k own all its points?
+// Does the polygon k own all its points? `parts_inside` is tested before it.
 fn owns_points(polygons: &[u32], owners: &[u32], k: u32) -> bool
+    requires { first_of polygons.now k + len_of polygons.now k ≤ length owners.now }
     ensures { result ≡ owns polygons.now owners.now k }
 {
-    let first = lists::wide(first_of(polygons, k));
-    let len = lists::wide(len_of(polygons, k));
+    let first = first_of(polygons, k) as usize;
+    let end = first + len_of(polygons, k) as usize;
     let mut ok = true;
-    let mut j: usize = 0;
-    while j < len {
-        ok = ok & (owner_at(owners, first + j) == k);
-        j += 1;
+    for &owner in &owners[first..end] {
+        ok &= owner == k;
     }
     ok
 }
 
 // A point has one owner, so the parts before the first failure do not overlap: no more reads than twice the points.
+// A `for`, since the closure of an `all` would need a `requires` of its own.
 fn all_own(n: u32, polygons: &[u32], owners: &[u32]) -> bool
+    requires { (k : ℕ) → k < n → first_of polygons.now k + len_of polygons.now k ≤ length owners.now }
     ensures { result ≡ all_own n polygons.now owners.now }
 {
-    let mut k: u32 = 0;
-    while k < n {
+    for k in 0..n {
         if !owns_points(polygons, owners, k) {
             return false;
         }
-        k += 1;
     }
     true
 }
 
 // Are the lent tables sound? The owners are tested before the boxes, so that the boxes' points are no more than the points.
-pub fn is_sound(
-    site: Site,
-    points: &[f64],
-    boxes: &[f64],
-    polygons: &[u32],
-    owners: &[u32],
-    starts: &[u32],
-    items: &[u32],
-) -> bool
-    ensures { result ≡ sound_of site (tables points.now boxes.now polygons.now owners.now starts.now items.now) }
+pub fn is_sound(site: Site, t: SiteTables) -> bool
+    ensures { result ≡ sound_of site (tables_of t.entry) }
 {
-    if !tables_long(site, points, boxes, polygons, owners, starts, items) {
-        return false;
-    }
-    if !counts_within(site) {
-        return false;
-    }
-    if !head_in_domain(site) {
-        return false;
-    }
-    let g = site.grid;
-    if !cell_right(g) {
-        return false;
-    }
-    if !cells_within(site) {
-        return false;
-    }
-    if !points_in_domain(site.points, points) {
-        return false;
-    }
-    if !parts_inside(site.polygons, site.points, polygons) {
-        return false;
-    }
-    if !all_own(site.polygons, polygons, owners) {
-        return false;
-    }
-    if !all_owned(site.polygons, site.points, polygons, owners) {
-        return false;
-    }
-    if !boxes_right(site.polygons, points, boxes, polygons) {
-        return false;
-    }
-    if !starts_right(site, starts) {
-        return false;
-    }
-    items_right(site.items, site.polygons, polygons, items)
+    tables_long(site, t)
+        && counts_within(site)
+        && head_in_domain(site)
+        && cell_right(site.grid)
+        && cells_within(site)
+        && points_in_domain(site.points, t.points)
+        && parts_inside(site.polygons, site.points, t.polygons)
+        && all_own(site.polygons, t.polygons, t.owners)
+        && all_owned(site.polygons, site.points, t.polygons, t.owners)
+        && boxes_right(site.polygons, t.points, t.boxes, t.polygons)
+        && starts_right(site, t.starts)
+        && items_right(site.items, site.polygons, t.polygons, t.items)
 }
 
 // Are points, polygons and the grid's numbers sound? The lines of document 01's "Sound tables" that speak of these alone, for calls that are lent no more (document 02,
@@ -435,27 +382,17 @@ pub fn is_sound(
 pub fn is_sound_plain(site: Site, points: &[f64], polygons: &[u32]) -> bool
     ensures { result ≡ sound_plain site points.now polygons.now }
 {
-    if points.len() < POINT * lists::wide(site.points) {
-        return false;
-    }
-    if polygons.len() < POLYGON * lists::wide(site.polygons) {
-        return false;
-    }
-    if !counts_within(site) {
-        return false;
-    }
-    let g = site.grid;
-    if !point_in_domain(g.origin) {
-        return false;
-    }
-    if !cell_right(g) {
-        return false;
-    }
-    if !cells_within(site) {
-        return false;
-    }
-    if !points_in_domain(site.points, points) {
-        return false;
-    }
-    parts_inside(site.polygons, site.points, polygons)
+    let Site {
+        polygons: n,
+        points: m,
+        ..
+    } = site;
+    POINT * m as usize <= points.len()
+        && POLYGON * n as usize <= polygons.len()
+        && counts_within(site)
+        && point_in_domain(site.grid.origin)
+        && cell_right(site.grid)
+        && cells_within(site)
+        && points_in_domain(m, points)
+        && parts_inside(n, m, polygons)
 }

@@ -1,7 +1,7 @@
 -- The index and the rays: one law for each way through `cast_rays`. Assumes nothing.
 use mathlib.Core.Path.{◌≡◌, refl, sym, ap, ◌∙◌, subst}
 use mathlib.Core.Logic.{inl, inr}
-use mathlib.Core.Bool.{true, false, true≢false}
+use mathlib.Core.Bool.{true, false}
 use mathlib.Core.List.{List}
 use Prim.Native.Nat.{ℕ}
 use native.Mathlib.Omega.{arith}
@@ -38,7 +38,7 @@ use Rattle.sweep.specs.Sweep.{Spared}
 use Rattle.sweep.proofs.Front.{index_front, noted_front}
 use Rattle.stages.specs.declared.Casting.{Casting}
 use Rattle.stages.specs.Drawing.{samples_for, index_over, rays_over}
-use Rattle.stages.specs.Held.{Standing, Casted}
+use Rattle.stages.specs.Held.{Standing, CastedTo}
 use Rattle.stages.proofs.Gathers.{fit_kept}
 use Rattle.stages.proofs.Sampling.{samples_are}
 
@@ -68,23 +68,9 @@ module _ (mode : ℕ) (k : Rooms) (v : View) (edges events : ℕ) (f : List Floa
         ∙ ap (λ (m : ℕ). over_of k m b.refs) (few_buckets mode edges v.fov) ∙ ap (λ (n : ℕ). over_of k (head_of 0 n v.fov).buckets b.refs) (sym (length_listed (edge_at k f w) edges))
         ∙ ap (over_of k (head_of 0 (length (edges_in k f w edges)) v.fov).buckets) B.refs
 
-    over_is : b.over ≡ true → true ≡ rays_over k v (edges_in k f w edges) (spots_in k f w events)
+    pub build_over : b.over ≡ true → rays_over k v (edges_in k f w edges) (spots_in k f w events) ≡ true
     unfolding rays_over
-    over_is h = rw (sym index_over_lem ∙ h)
-
-    pub build_over : (x : AngularIndex) (n : ℕ) → b.over ≡ true → Casted mode k v (edges_in k f w edges) (spots_in k f w events) (record { index = x; samples = n; over = true }) f w1
-    build_over x n h = record {
-      over = over_is h;
-      samples = λ e. absurd (true≢false e);
-      few = λ e. absurd (true≢false e);
-      rays = λ e. absurd (true≢false e);
-      below = λ e. absurd (true≢false e);
-      noted = λ e. absurd (true≢false e);
-      index = λ e. absurd (true≢false e);
-      within = λ e. absurd (true≢false e);
-      spots_stay = λ e. absurd (true≢false e);
-      ends = λ e. absurd (true≢false e);
-    }
+    build_over h = rw (sym index_over_lem ∙ h)
 
     between_kept : part (merged_w k) (starts_w k) w1 ≡ part (merged_w k) (starts_w k) w
     between_kept = only_part (merged_w k) (starts_w k) B.filled (inl (omega arith)) ∙ only_part (merged_w k) (starts_w k) B.ordered (inr (omega arith))
@@ -132,18 +118,21 @@ module _ (mode : ℕ) (k : Rooms) (v : View) (edges events : ℕ) (f : List Floa
         few_events : length (spots_in k f w events) ≡ events
         few_events = length_listed (spot_at k f w) events
 
-        pub cast_done : Casted mode k v (edges_in k f w edges) (spots_in k f w events) (record { index = x; samples = r.samples; over = r.over }) f2 w2
-        cast_done = record {
-          over = ray_over;
-          samples = λ _. many;
-          few = λ e. ltb-false k.samples r.samples (sym R.over ∙ e);
-          rays = λ e. R.rays e ∙ ap (λ (i : Index). rays_cast v i (samples_of v (turn_at k f w1) events)) stands ∙ ap (rays_cast v (index_of mode v.fov (edges_in k f w edges))) samples_is;
-          below = λ e. R.below e;
-          noted = λ e. subst (λ (i : Index). Noted k v.start (Lone v i) f2 w2 r.samples) stands (R.noted e);
-          index = λ e. index_behind k f f2 w1 w2 x sound R.floats R.words (omega arith) (omega arith) ∙ stands;
-          within = λ e. within_behind k f f2 w1 w2 x sound R.floats R.words (omega arith) (omega arith);
-          spots_stay = λ e. ap (spots_in k f2 w2) few_events ∙ spots_kept k f f2 w1 w2 events S.events_fit ends_1 merged_kept corners_kept ∙ spots_1;
-          ends = λ e. rw few_events (ends_kept k f f2 w1 w2 events S.events_fit ends_1 merged_kept corners_kept);
+        pub cast_over : r.over ≡ true → rays_over k v (edges_in k f w edges) (spots_in k f w events) ≡ true
+        cast_over e = sym ray_over ∙ e
+
+        pub cast_done : r.over ≡ false → CastedTo mode k v (edges_in k f w edges) (spots_in k f w events) (record { index = x; samples = r.samples }) f2 w2
+        cast_done e = record {
+          fits = sym ray_over ∙ e;
+          samples = many;
+          few = ltb-false k.samples r.samples (sym R.over ∙ e);
+          rays = R.rays e ∙ ap (λ (i : Index). rays_cast v i (samples_of v (turn_at k f w1) events)) stands ∙ ap (rays_cast v (index_of mode v.fov (edges_in k f w edges))) samples_is;
+          below = R.below e;
+          noted = subst (λ (i : Index). Noted k v.start (Lone v i) f2 w2 r.samples) stands (R.noted e);
+          index = index_behind k f f2 w1 w2 x sound R.floats R.words (omega arith) (omega arith) ∙ stands;
+          within = within_behind k f f2 w1 w2 x sound R.floats R.words (omega arith) (omega arith);
+          spots_stay = ap (spots_in k f2 w2) few_events ∙ spots_kept k f f2 w1 w2 events S.events_fit ends_1 merged_kept corners_kept ∙ spots_1;
+          ends = rw few_events (ends_kept k f f2 w1 w2 events S.events_fit ends_1 merged_kept corners_kept);
         }
 
 -- ---- where no tie is noted, the cast has no further credits
@@ -154,8 +143,8 @@ module _ (k : Rooms) (x : AngularIndex) (f : List Float) (w owners : List ℕ) (
       ap (λ (q : Index). further_of q owners v.o a.angle (from_angle_of (v.start ⊕ a.angle)) v.r) stands
       ∙ further_none i owners v.o a.angle (from_angle_of (v.start ⊕ a.angle)) v.r lone
 
-pub noted_still : (mode : ℕ) (k : Rooms) (v : View) (edges : List LocalEdge) (spots : List Spot) (r : Casting) (f : List Float) (w : List ℕ) → Casted mode k v edges spots r f w → r.over ≡ false → (owners : List ℕ)
+pub noted_still : (mode : ℕ) (k : Rooms) (v : View) (edges : List LocalEdge) (spots : List Spot) (r : Casting) (f : List Float) (w : List ℕ) → CastedTo mode k v edges spots r f w → (owners : List ℕ)
     → Noted k v.start (Spared k r.index f (part 0 (seen_w k) w) owners v) f (part 0 (seen_w k) w) r.samples
-noted_still mode k v edges spots r f w C fits owners =
-    noted_front k w f r.samples (C.few fits) (C.below fits) v.start (Lone v (index_of mode v.fov edges)) (Spared k r.index f (part 0 (seen_w k) w) owners v)
-    (spared k r.index f (part 0 (seen_w k) w) owners v (index_of mode v.fov edges) (index_front k w f r.index (C.within fits) ∙ C.index fits)) (C.noted fits)
+noted_still mode k v edges spots r f w C owners =
+    noted_front k w f r.samples C.few C.below v.start (Lone v (index_of mode v.fov edges)) (Spared k r.index f (part 0 (seen_w k) w) owners v)
+    (spared k r.index f (part 0 (seen_w k) w) owners v (index_of mode v.fov edges) (index_front k w f r.index C.within ∙ C.index)) C.noted

@@ -2,6 +2,7 @@
 -- tested at exactly the distance that it answered; `rust_returned`: in mode 0 that is the edge that the cast returned. `samples_listed`: the owner of every edge that a
 -- sample's cast returned is listed; `ties_listed`: in the other mode so is the owner of every edge that it tested at exactly the distance that it answered.
 -- `run_exact`: the run is over exactly where a list of the run in lists that grow passes its entries. Assumes nothing.
+use Rattle.std.proofs.Common.{Option}
 use mathlib.Core.Path.{◌≡◌, refl, sym, ap, ◌∙◌, subst}
 use mathlib.Core.Logic.{◌⊎◌, inl, inr, ⊎_elim}
 use mathlib.Core.Bool.{Bool, true, false, cond}
@@ -20,8 +21,6 @@ use Rattle.lists.proofs.Members.{all_in, holds_in, in_holds, in_map, from_map}
 use Rattle.geom.specs.Vec.{from_angle_of}
 use Rattle.sorts.specs.Visible.{marked_of, Marks}
 use Rattle.sorts.proofs.Marks.{marks_none}
-use Rattle.site.specs.declared.Cast.{Cast}
-use Rattle.site.specs.declared.Cast.TheVariants.{Hit}
 use Rattle.site.specs.Tables.{owner_at}
 use Rattle.cone.specs.declared.View.{View}
 use Rattle.room.specs.declared.LocalEdge.{LocalEdge}
@@ -46,6 +45,8 @@ use Rattle.sweep.proofs.Exact.{beside, exact}
 use Rattle.sweep.proofs.Visible.{Entered, entries_entered, credits_entered, marks_left, casts_left}
 use Rattle.credit.specs.Credit.{no_marks}
 use Rattle.stages.specs.Drawing.{Request, view_in, fan_in, samples_for, rays_for, index_for, course_of, run_of}
+use Rattle.site.specs.Hits.{hit_at}
+use Rattle.site.specs.declared.RayHit.{RayHit}
 
 -- ---- marks
 bit_true : (b : Bool) → ltb 0 (bit b) ≡ true → b ≡ true
@@ -99,7 +100,7 @@ module _ (q : Request) (es : List LocalEdge) (sp : List Spot) where
   run_casts h = casts_left (course_of q es sp) (rays_for q.mode (view_in q) es sp) no_marks (replicate q.numbers zero_f) no_marks_lem h
 
   -- what the ray at an angle hits, and the edges that its cast tests and meets at exactly the distance u
-  abbrev pub cast_at : Float → Cast
+  abbrev pub cast_at : Float → Option RayHit
   cast_at angle = hit_of (view_in q) (index_for q es) angle
 
   abbrev pub tied_at : Float → Float → List LocalEdge
@@ -126,7 +127,7 @@ module _ (q : Request) (es : List LocalEdge) (sp : List Spot) where
   abbrev credits : Float → ℕ → List ℕ
   credits = credits_for (view_in q) (index_for q es) q.owners
 
-  answer_tied : (g u : Float) (f : ℕ) → cast_at g ≡ Hit u f → (y : LocalEdge) × In y (tied_at g u) × (y.edge ≡ f)
+  answer_tied : (g u : Float) (f : ℕ) → cast_at g ≡ hit_at u f → (y : LocalEdge) × In y (tied_at g u) × (y.edge ≡ f)
   unfolding hit_of
   answer_tied g u f h = tied_hit (index_for q es) (view_in q).o g (from_angle_of ((view_in q).start ⊕ g)) (view_in q).r u f h
 
@@ -137,7 +138,7 @@ module _ (q : Request) (es : List LocalEdge) (sp : List Spot) where
   rust_credit : q.mode ≡ 0 → (g : Float) (f e : ℕ) → In e (credits g f) → e ≡ f
   rust_credit m g f e i = ⊎_elim (λ z. z) absurd (subst (In e) (rust_credits m g f) i)
 
-  module _ (ties : q.mode ≡ 0 → ⊥) (g u : Float) (f : ℕ) (h : cast_at g ≡ Hit u f) where
+  module _ (ties : q.mode ≡ 0 → ⊥) (g u : Float) (f : ℕ) (h : cast_at g ≡ hit_at u f) where
     other_credit : (e : ℕ) → In e (credits g f) → (e ≡ f) ⊎ ((y : LocalEdge) × In y (tied_at g u) × (y.edge ≡ e))
     unfolding hit_of credits_for
     other_credit e i = credits_tied (index_for q es) q.owners (view_in q).o g (from_angle_of ((view_in q).start ⊕ g)) (view_in q).r f (λ z. ties (sym mode_is ∙ z)) u h e i
@@ -150,26 +151,26 @@ module _ (q : Request) (es : List LocalEdge) (sp : List Spot) where
     unfolding hit_of credits_for
     tied_credit y i l = credits_every (index_for q es) q.owners (view_in q).o g (from_angle_of ((view_in q).start ⊕ g)) (view_in q).r f (λ z. ties (sym mode_is ∙ z)) u h y i l
 
-  credit_tied : (g u : Float) (f e : ℕ) → cast_at g ≡ Hit u f → In e (credits g f) → (y : LocalEdge) × In y (tied_at g u) × (y.edge ≡ e)
+  credit_tied : (g u : Float) (f e : ℕ) → cast_at g ≡ hit_at u f → In e (credits g f) → (y : LocalEdge) × In y (tied_at g u) × (y.edge ≡ e)
   credit_tied g u f e h i =
       ⊎_elim (λ m. on (rust_credit m g f e i)) (λ m. ⊎_elim on (λ z. z) (other_credit m g u f h e i)) (eq_or_ne q.mode 0)
     where
       on : e ≡ f → (y : LocalEdge) × In y (tied_at g u) × (y.edge ≡ e)
       on z = let (y, j, n) = answer_tied g u f h in (y, j, n ∙ sym z)
 
-  first_credit : (g u : Float) (f : ℕ) → cast_at g ≡ Hit u f → In f (credits g f)
+  first_credit : (g u : Float) (f : ℕ) → cast_at g ≡ hit_at u f → In f (credits g f)
   first_credit g u f h = ⊎_elim (λ m. subst (In f) (sym (rust_credits m g f)) (inl refl)) (λ m. answer_credit m g u f h) (eq_or_ne q.mode 0)
 
   -- a cast of the run tested the edge x at exactly the distance that it answered: one of refining, or that of a sample
   abbrev pub Tested : LocalEdge → Type 0
-  Tested x = ((angle : Float) × In angle (as_rust (course_of q es sp) (rays_for q.mode (view_in q) es sp) no_marks).rays × (u : Float) × (f : ℕ) × (cast_at angle ≡ Hit u f) × In x (tied_at angle u))
-      ⊎ ((a : Sample) × In a (rays_for q.mode (view_in q) es sp) × (u : Float) × (f : ℕ) × (a.hit ≡ Hit u f) × In x (tied_at a.angle u))
+  Tested x = ((angle : Float) × In angle (as_rust (course_of q es sp) (rays_for q.mode (view_in q) es sp) no_marks).rays × (u : Float) × (f : ℕ) × (cast_at angle ≡ hit_at u f) × In x (tied_at angle u))
+      ⊎ ((a : Sample) × In a (rays_for q.mode (view_in q) es sp) × (u : Float) × (f : ℕ) × (a.hit ≡ hit_at u f) × In x (tied_at a.angle u))
 
   pub tested_listed : (x : LocalEdge) → Tested x → In x es
   tested_listed x r = ⊎_elim (λ s. tied_listed s.0 s.2 x s.5) (λ s. tied_listed s.0.angle s.2 x s.5) r
 
   -- a sample's hit is a front edge
-  pub sample_front : (a : Sample) → In a (rays_for q.mode (view_in q) es sp) → (u : Float) (e : ℕ) → a.hit ≡ Hit u e → (x : LocalEdge) × In x es × (x.edge ≡ e)
+  pub sample_front : (a : Sample) → In a (rays_for q.mode (view_in q) es sp) → (u : Float) (e : ℕ) → a.hit ≡ hit_at u e → (x : LocalEdge) × In x es × (x.edge ≡ e)
   sample_front a i u e h = let (x, j, n) = answer_tied a.angle u e (sym (ray_hit a i) ∙ h) in (x, tied_listed a.angle u x j, n)
 
   entered_tested : (e : ℕ) → Entered (course_of q es sp) (rays_for q.mode (view_in q) es sp) no_marks e → (x : LocalEdge) × Tested x × (x.edge ≡ e)
@@ -181,14 +182,14 @@ module _ (q : Request) (es : List LocalEdge) (sp : List Spot) where
 
   -- a cast of the run returned the edge e
   abbrev pub Returned : ℕ → Type 0
-  Returned e = ((angle : Float) × In angle (as_rust (course_of q es sp) (rays_for q.mode (view_in q) es sp) no_marks).rays × (u : Float) × (cast_at angle ≡ Hit u e))
-      ⊎ ((a : Sample) × In a (rays_for q.mode (view_in q) es sp) × (u : Float) × (a.hit ≡ Hit u e))
+  Returned e = ((angle : Float) × In angle (as_rust (course_of q es sp) (rays_for q.mode (view_in q) es sp) no_marks).rays × (u : Float) × (cast_at angle ≡ hit_at u e))
+      ⊎ ((a : Sample) × In a (rays_for q.mode (view_in q) es sp) × (u : Float) × (a.hit ≡ hit_at u e))
 
   entered_returned : q.mode ≡ 0 → (e : ℕ) → Entered (course_of q es sp) (rays_for q.mode (view_in q) es sp) no_marks e → Returned e
   entered_returned m e r =
       ⊎_elim
-      (λ s. inl (s.0, s.1, s.2, s.4 ∙ ap (Hit s.2) (sym (rust_credit m s.0 s.3 e s.5))))
-      (λ s. inr (s.0, s.1, s.2, s.4 ∙ ap (Hit s.2) (sym (rust_credit m s.0.angle s.3 e s.5))))
+      (λ s. inl (s.0, s.1, s.2, s.4 ∙ ap (hit_at s.2) (sym (rust_credit m s.0 s.3 e s.5))))
+      (λ s. inr (s.0, s.1, s.2, s.4 ∙ ap (hit_at s.2) (sym (rust_credit m s.0.angle s.3 e s.5))))
       r
 
   -- an id is seen: an edge of it has an entry; it is a front edge that a cast tested at exactly the distance that it answered
@@ -237,7 +238,7 @@ module _ (q : Request) (es : List LocalEdge) (sp : List Spot) where
   marks_long h = ap length (run_marks h) ∙ free_long ∙ length-replicate {A = ℕ} 4096 0
 
   -- every owner of an edge that a sample's cast credits
-  credit_listed : (run_of q es sp).at.over ≡ false → (a : Sample) → In a (rays_for q.mode (view_in q) es sp) → (t : Float) (f : ℕ) → a.hit ≡ Hit t f → (o : ℕ) → o < 4096
+  credit_listed : (run_of q es sp).at.over ≡ false → (a : Sample) → In a (rays_for q.mode (view_in q) es sp) → (t : Float) (f : ℕ) → a.hit ≡ hit_at t f → (o : ℕ) → o < 4096
       → In o (map (owner_at q.owners) (credits a.angle f)) → In o (marked_of (run_of q es sp).marks)
   unfolding entries
   credit_listed h a i t f x o l j =
@@ -245,13 +246,13 @@ module _ (q : Request) (es : List LocalEdge) (sp : List Spot) where
       held_listed (map (owner_at q.owners) entries) (run_of q es sp).marks o (marks_are h) (omega (arith, marks_long h))
       (subst (λ (y : ℕ). In y (map (owner_at q.owners) entries)) z (in_map (owner_at q.owners) e entries (credits_entered (course_of q es sp) (rays_for q.mode (view_in q) es sp) no_marks a i t f x e k)))
 
-  pub samples_listed : (run_of q es sp).at.over ≡ false → (a : Sample) → In a (rays_for q.mode (view_in q) es sp) → (t : Float) (e : ℕ) → a.hit ≡ Hit t e → owner_at q.owners e < 4096
+  pub samples_listed : (run_of q es sp).at.over ≡ false → (a : Sample) → In a (rays_for q.mode (view_in q) es sp) → (t : Float) (e : ℕ) → a.hit ≡ hit_at t e → owner_at q.owners e < 4096
       → In (owner_at q.owners e) (marked_of (run_of q es sp).marks)
   samples_listed h a i t e x l =
       credit_listed h a i t e x (owner_at q.owners e) l (in_map (owner_at q.owners) e (credits a.angle e) (first_credit a.angle t e (sym (ray_hit a i) ∙ x)))
 
   -- in the other mode every owner of an edge that a sample's cast tested at exactly the distance that it answered
-  pub ties_listed : (run_of q es sp).at.over ≡ false → (q.mode ≡ 0 → ⊥) → (a : Sample) → In a (rays_for q.mode (view_in q) es sp) → (t : Float) (e : ℕ) → a.hit ≡ Hit t e
+  pub ties_listed : (run_of q es sp).at.over ≡ false → (q.mode ≡ 0 → ⊥) → (a : Sample) → In a (rays_for q.mode (view_in q) es sp) → (t : Float) (e : ℕ) → a.hit ≡ hit_at t e
       → (x : LocalEdge) → In x (tied_at a.angle t) → owner_at q.owners x.edge < 4096 → In (owner_at q.owners x.edge) (marked_of (run_of q es sp).marks)
   ties_listed h m a i t e z x u l =
       credit_listed h a i t e z (owner_at q.owners x.edge) l (tied_credit m a.angle t e (sym (ray_hit a i) ∙ z) x u l)

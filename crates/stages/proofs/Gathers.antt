@@ -1,7 +1,7 @@
 -- The front edges and the merged events: one law for each way through `gather`. Assumes nothing.
 use mathlib.Core.Path.{◌≡◌, sym, ap, ◌∙◌}
 use mathlib.Core.Logic.{inl}
-use mathlib.Core.Bool.{true, false, true≢false}
+use mathlib.Core.Bool.{true, false}
 use mathlib.Core.List.{List, ◌++◌}
 use Prim.Native.Nat.{ℕ, ◌≤◌}
 use native.Mathlib.Omega.{arith}
@@ -25,30 +25,31 @@ use Rattle.events.specs.Spots.{sides_of, aside_count}
 use Rattle.events.specs.Held.{Merges}
 use Rattle.events.proofs.Bounds.{spots_le}
 use Rattle.stages.specs.Drawing.{unmerged_of, spots_for}
-use Rattle.stages.specs.Held.{gathering, gathering_of, Gathered}
+use Rattle.stages.specs.declared.Gathering.TheVariants.{Over, Touching, Found}
+use Rattle.stages.specs.Held.{gathering_of, Gathered}
 
 pub fit_kept : {k : Rooms} {a b : ℕ} (c d : ℕ) → c ≡ a → d ≡ b → Fit k a b → Fit k c d
 fit_kept c d p q h = rw (p, q) h
 
 module _ (k : Rooms) (v : View) (g : Fanned) where
-  over_gathered : (f : List Float) (w : List ℕ) → gathering 0 0 0 false true ≡ gathering_of k v g → Gathered k v g (gathering 0 0 0 false true) f w
-  over_gathered f w e = record { is = e; edges = λ h. absurd (true≢false h); spots = λ h. absurd (true≢false h); stand = λ h. absurd (true≢false h) }
+  over_gathered : (f : List Float) (w : List ℕ) → Over ≡ gathering_of k v g → Gathered k v g Over f w
+  over_gathered f w e = record { is = e; kept = tt }
 
   module _ (r : Fan) (f : List Float) (w : List ℕ) (f1 : List Float) (w1 : List ℕ) (F : Scanned k g r f w f1 w1) where
-    over_is : r.over ≡ true → gathering 0 0 0 false true ≡ gathering_of k v g
+    over_is : r.over ≡ true → Over ≡ gathering_of k v g
     unfolding gathering_of
     over_is h = rw (sym F.over ∙ h)
 
-    pub scan_over : r.over ≡ true → Gathered k v g (gathering 0 0 0 false true) f1 w1
+    pub scan_over : r.over ≡ true → Gathered k v g Over f1 w1
     scan_over h = over_gathered f1 w1 (over_is h)
 
     module _ (h : r.over ≡ false) where
-      touch_is : r.touch ≡ true → gathering 0 0 0 true false ≡ gathering_of k v g
+      touch_is : r.touch ≡ true → Touching ≡ gathering_of k v g
       unfolding gathering_of
       touch_is t = rw (sym F.over ∙ h, sym F.touch ∙ t)
 
-      pub scan_touch : r.touch ≡ true → Gathered k v g (gathering 0 0 0 true false) f1 w1
-      scan_touch t = record { is = touch_is t; edges = λ e e'. absurd (true≢false e'); spots = λ e e'. absurd (true≢false e'); stand = λ e e'. absurd (true≢false e') }
+      pub scan_touch : r.touch ≡ true → Gathered k v g Touching f1 w1
+      scan_touch t = record { is = touch_is t; kept = tt }
 
       bounds : (length g.edges ≤ k.edges) × (length g.events ≤ k.events)
       bounds =
@@ -69,14 +70,14 @@ module _ (k : Rooms) (v : View) (g : Fanned) where
         M : Merges k (unmerged_of v g) f2 w2 m
         M = rw unmerged_is at M₀
 
-        merge_is : m.over ≡ true → gathering 0 0 0 false true ≡ gathering_of k v g
+        merge_is : m.over ≡ true → Over ≡ gathering_of k v g
         unfolding gathering_of
         merge_is q = rw (sym F.over ∙ h, sym F.touch ∙ t, sym M.over_is ∙ q)
 
-        pub merge_over : m.over ≡ true → Gathered k v g (gathering 0 0 0 false true) f2 w2
+        pub merge_over : m.over ≡ true → Gathered k v g Over f2 w2
         merge_over q = over_gathered f2 w2 (merge_is q)
 
-        all_is : m.over ≡ false → gathering r.candidates r.edges m.events false false ≡ gathering_of k v g
+        all_is : m.over ≡ false → Found r.candidates r.edges m.events ≡ gathering_of k v g
         unfolding gathering_of
         all_is q = rw (sym F.over ∙ h, sym F.touch ∙ t, sym M.over_is ∙ q, F.candidates, F.edges, M.events_are q)
 
@@ -90,15 +91,17 @@ module _ (k : Rooms) (v : View) (g : Fanned) where
             edges_kept k f1 f2 w1 w2 r.edges edges_few (only_part 0 (events_f k) O.0 (inl (omega arith))) (only_part (edges_w k) (nearest_w k) O.1 (inl (omega arith)))
             ∙ F.edges_stand h
 
-        pub merge_done : Fit k (length f) (length w) → m.over ≡ false → Gathered k v g (gathering r.candidates r.edges m.events false false) f2 w2
+        pub merge_done : Fit k (length f) (length w) → m.over ≡ false → Gathered k v g (Found r.candidates r.edges m.events) f2 w2
         merge_done fit q = record {
           is = all_is q;
-          edges = λ _ _. edges_stay;
-          spots = λ _ _. M.spots_are q;
-          stand = λ _ _. record {
-            fit = fit_kept (length f2) (length w2) (O.0.long ∙ F.floats_only.long) (O.1.long ∙ F.words_only.long) fit;
-            edges_fit = edges_few;
-            events_fit = spots_few q;
-            ends = M.ends_are q;
+          kept = record {
+            edges_are = edges_stay;
+            spots_are = M.spots_are q;
+            stand = record {
+              fit = fit_kept (length f2) (length w2) (O.0.long ∙ F.floats_only.long) (O.1.long ∙ F.words_only.long) fit;
+              edges_fit = edges_few;
+              events_fit = spots_few q;
+              ends = M.ends_are q;
+            };
           };
         }

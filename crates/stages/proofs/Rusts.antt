@@ -1,6 +1,7 @@
 -- MODE 0 IS THE RUST'S RULE: `rust_run_lem`: the run of a request in mode 0 is the run of specs/Rust.antt, which knows no mode, and so is the run in lists that grow
 -- (`rust_growing`). The mode enters the stages nowhere else: what is scanned and merged, the index and its bounds, and what the run comes to go by it only through the
 -- run. Assumes nothing.
+use Rattle.std.proofs.Common.{Option}
 use mathlib.Core.Path.{◌≡◌, refl, ap, ◌∙◌, fun_ext}
 use mathlib.Core.List.{List, [], ◌∷◌, map}
 use Prim.Native.Nat.{ℕ}
@@ -8,7 +9,6 @@ use lib.ListN.{replicate}
 use lib.Ieee.{Float}
 use Rattle.num.specs.Ops.{◌⊕◌, zero_f}
 use Rattle.geom.specs.Vec.{from_angle_of}
-use Rattle.site.specs.declared.Cast.{Cast}
 use Rattle.room.specs.declared.LocalEdge.{LocalEdge}
 use Rattle.room.specs.declared.Sample.{Sample}
 use Rattle.room.specs.Records.{with_hit}
@@ -24,6 +24,7 @@ use Rattle.sweep.specs.Recorder.{as_rust}
 use Rattle.credit.specs.Credit.{no_marks}
 use Rattle.stages.specs.Drawing.{Request, view_in, samples_for, rays_for, index_for, course_by, course_of, run_of}
 use Rattle.stages.specs.Rust.{rust_hit, rust_rays, rust_index, rust_course, rust_run}
+use Rattle.site.specs.declared.RayHit.{RayHit}
 
 module _ (q : Request) (es : List LocalEdge) (sp : List Spot) (m : q.mode ≡ 0) where
   index_is : index_for q es ≡ rust_index q es
@@ -47,11 +48,11 @@ module _ (q : Request) (es : List LocalEdge) (sp : List Spot) (m : q.mode ≡ 0)
 
   pub rust_rays_lem : rays_for q.mode (view_in q) es sp ≡ rust_rays (view_in q) (rust_index q es) (samples_for (view_in q) sp)
   unfolding rays_cast
-  rust_rays_lem = ap (λ (g : Float → Cast). map (λ (s : Sample). with_hit s (g s.angle)) (ordered_of (samples_for (view_in q) sp))) hit_is
+  rust_rays_lem = ap (λ (g : Float → (Option RayHit)). map (λ (s : Sample). with_hit s (g s.angle)) (ordered_of (samples_for (view_in q) sp))) hit_is
 
   pub rust_course_lem : course_of q es sp ≡ rust_course q es sp
   rust_course_lem =
-      ap (λ (g : Float → Cast). course_by g (credits_for (view_in q) (index_for q es) q.owners) q sp) hit_is
+      ap (λ (g : Float → (Option RayHit)). course_by g (credits_for (view_in q) (index_for q es) q.owners) q sp) hit_is
       ∙ ap (λ (c : Float → ℕ → List ℕ). course_by (rust_hit (view_in q) (rust_index q es)) c q sp) credits_are
 
   -- one walk over both

@@ -1,7 +1,8 @@
 -- What an answer shows: one law for each way through `circle`, `trace`, `sweep_events` and `staged`. Assumes nothing.
+use Rattle.std.proofs.Common.{Err, Ok, Result}
 use mathlib.Core.Path.{◌≡◌, refl, sym, ap, ◌∙◌}
 use mathlib.Core.Bool.{Bool, true, false, ◌||◌, cond, true≢false, or-false, or-true}
-use mathlib.Core.Logic.{⊎_elim}
+use mathlib.Core.Logic.{◌⊎◌, ⊎_elim}
 use mathlib.Core.List.{List, [], ◌∷◌}
 use Prim.Native.Nat.{ℕ, ◌*◌, ◌/◌, ◌≤◌, ◌<◌}
 use native.Mathlib.Omega.{arith}
@@ -32,18 +33,21 @@ use Rattle.sweep.specs.Sweep.{Course, begin_of, sweep_of}
 use Rattle.stages.specs.declared.Gathering.{Gathering}
 use Rattle.stages.specs.declared.Casting.{Casting}
 use Rattle.stages.specs.declared.Tracing.{Tracing}
-use Rattle.stages.specs.declared.Visibility.{Visibility}
-use Rattle.stages.specs.declared.Visibility.TheVariants.{Seen, Refused}
 use Rattle.stages.specs.Drawing.{Request, view_in, Drawing, eight, plain, fan_in, spots_for, events_over, circle_by, samples_for, rays_over, run_of, swept_of, spotted, fanned, staged_of}
 use Rattle.stages.specs.Shows.{points_in, ids_in, Shows}
-use Rattle.stages.specs.Held.{gathering, gathering_of, Standing, Gathered, Casted, run_in, Traced}
+use Rattle.stages.specs.declared.Gathering.TheVariants.{Over, Touching, Found}
+use Rattle.stages.specs.Held.{gathering_of, Standing, Gathered, CastedTo, run_in, traced_over, TracedTo, Traced}
+use Rattle.std.specs.Prelude.{Option, Some, None}
 use Rattle.stages.proofs.Running.{run_is}
+use Rattle.refusal.specs.declared.Refusal.{Refusal}
+use Rattle.refusal.specs.declared.Refusal.TheVariants.{NoListRoom}
+use Rattle.stages.specs.declared.Shown.{Shown}
 
-pub shows_eight : {d : Drawing} (o : List Float) (i : List ℕ) → d ≡ eight → Shows d (Refused 8) o i
+pub shows_eight : {d : Drawing} (o : List Float) (i : List ℕ) → d ≡ eight → Shows d (Err NoListRoom) o i
 unfolding points_in ids_in
 shows_eight o i e = rw e (record { is = refl; points_many = refl; ids_many = refl; points_laid = refl; ids_laid = refl })
 
-pub shows_plain : {d : Drawing} {r : Visibility} (b full : Bool) (o : List Float) (i : List ℕ) → r ≡ (plain b full).answer → d ≡ plain b full → Shows d r o i
+pub shows_plain : {d : Drawing} {r : (Result Shown Refusal)} (b full : Bool) (o : List Float) (i : List ℕ) → r ≡ (plain b full).answer → d ≡ plain b full → Shows d r o i
 unfolding points_in ids_in
 shows_plain b full o i p e = rw (e, p) (record { is = refl; points_many = refl; ids_many = refl; points_laid = refl; ids_laid = refl })
 
@@ -53,11 +57,11 @@ module _ (c : ViewCone) (tolerance : Float) (candidates edges : ℕ) (old new : 
   unfolding circle_by
   none_is h = rw (lt-ltb (length old) (2 * length (outline_of c tolerance)) (omega (arith, D.count)))
 
-  pub circle_over : {l : ℕ} → l ≡ length old → l / 2 < n → Shows (circle_by c tolerance candidates edges (length old)) (Refused 8) new []
+  pub circle_over : {l : ℕ} → l ≡ length old → l / 2 < n → Shows (circle_by c tolerance candidates edges (length old)) (Err NoListRoom) new []
   circle_over e h = shows_eight new [] (none_is (omega arith))
 
   circle_is : 2 * n ≤ length old → circle_by c tolerance candidates edges (length old) ≡ record {
-    answer = Seen (record { blocked = false; full = is_full_of c; points = n; visible = 0; candidates = candidates; front_edges = edges; events = 0; rays_cast = 0; refinements = 0 });
+    answer = Ok (record { blocked = false; full = is_full_of c; points = n; visible = 0; candidates = candidates; front_edges = edges; events = 0; rays_cast = 0; refinements = 0 });
     pts = numbers_of (outline_of c tolerance);
     ids = [];
   }
@@ -65,7 +69,7 @@ module _ (c : ViewCone) (tolerance : Float) (candidates edges : ℕ) (old new : 
   circle_is h = rw (le-ltb (length old) (2 * length (outline_of c tolerance)) (omega (arith, D.count)), D.count)
 
   pub circle_done : {l : ℕ} {b : Bool} → l ≡ length old → n ≤ l / 2 → b ≡ is_full_of c
-      → Shows (circle_by c tolerance candidates edges (length old)) (Seen (record { blocked = false; full = b; points = n; visible = 0; candidates = candidates; front_edges = edges; events = 0; rays_cast = 0; refinements = 0 })) new []
+      → Shows (circle_by c tolerance candidates edges (length old)) (Ok (record { blocked = false; full = b; points = n; visible = 0; candidates = candidates; front_edges = edges; events = 0; rays_cast = 0; refinements = 0 })) new []
   unfolding points_in ids_in
   circle_done k g e =
       let h : 2 * n ≤ length old = omega arith in
@@ -83,29 +87,30 @@ pub run_from : (c : Course) (l : List Sample) (v : View) {p p' : List Float} {m 
 run_from c l v {p} {p'} {m} e h g = e ∙ ap (λ (x : List Float). sweep_of c l (begin_of v x m)) h ∙ ap (λ (x : List ℕ). sweep_of c l (begin_of v p' x)) g
 
 module _ (run : Run) (t : Trace) (o : List Float) (m : List ℕ) (old new : List ℕ) (n : ℕ) (e : run_at o m t ≡ run) (within : 2 * t.points ≤ length o) (hn : n ≡ length (marked_of m)) (hs : new ≡ sets old 0 (marked_of m)) where
-  traced_by : {r : Tracing} → Traced (run_at o m t) (length old) r o new → Traced run (length old) r o new
+  traced_by : {r : Option Tracing} → Traced (run_at o m t) (length old) r o new → Traced run (length old) r o new
   traced_by T = rw e at T
 
-  pub trace_over : length old < n → Traced run (length old) (record { points = 0; visible = 0; refinements = 0; over = true }) o new
+  -- the run was over, or its polygons are too many
+  pub trace_over : (t.over ≡ true) ⊎ (length old < n) → Traced run (length old) None o new
   trace_over h = traced_by (record {
-    over = sym (or-true t.over) ∙ ap (λ (b : Bool). t.over || b) (sym (lt-ltb (length old) (length (marked_of m)) (omega arith)));
-    points = λ q. absurd (true≢false q);
-    refinements = λ q. absurd (true≢false q);
-    visible_many = λ q. absurd (true≢false q);
+    by = ⊎_elim
+        (λ q. ap (λ (b : Bool). b || ltb (length old) (length (marked_of m))) q)
+        (λ l. ap (λ (b : Bool). t.over || b) (lt-ltb (length old) (length (marked_of m)) (omega arith)) ∙ or-true t.over) h;
     pts = refl;
     within = within;
-    ids = λ q. absurd (true≢false q);
   })
 
-  pub trace_done : n ≤ length old → Traced run (length old) (record { points = t.points; visible = n; refinements = t.refinements; over = t.over }) o new
-  trace_done h = traced_by (record {
-    over = sym (or-false t.over) ∙ ap (λ (b : Bool). t.over || b) (sym (le-ltb (length old) (length (marked_of m)) (omega arith)));
-    points = λ q. refl;
-    refinements = λ q. refl;
-    visible_many = λ q. hn;
+  pub trace_done : t.over ≡ false → n ≤ length old → Traced run (length old) (Some (record { points = t.points; visible = n; refinements = t.refinements })) o new
+  trace_done q h = traced_by (record {
+    by = record {
+      fits = ap (λ (b : Bool). t.over || b) (le-ltb (length old) (length (marked_of m)) (omega arith)) ∙ or-false t.over ∙ q;
+      points = refl;
+      refinements = refl;
+      visible_many = hn;
+      ids = rw hs (laid old 0 (marked_of m) (omega arith));
+    };
     pts = refl;
     within = within;
-    ids = λ q. rw hs (laid old 0 (marked_of m) (omega arith));
   })
 
 -- ---- `sweep_events`
@@ -115,7 +120,7 @@ module _ (q : Request) (candidates : ℕ) (es : List LocalEdge) where
   spotted_some [] h = absurd (omega arith)
   spotted_some (s ∷ l) h = refl
 
-  pub no_events : (sp : List Spot) → length sp ≡ 0 → {r : Visibility} (o : List Float) (i : List ℕ)
+  pub no_events : (sp : List Spot) → length sp ≡ 0 → {r : (Result Shown Refusal)} (o : List Float) (i : List ℕ)
       → Shows (circle_by q.cone q.tolerance candidates (length es) q.numbers) r o [] → Shows (spotted q candidates es sp) r o i
   unfolding spotted
   no_events [] e o i S = record { is = S.is; points_many = S.points_many; ids_many = S.ids_many; points_laid = S.points_laid; ids_laid = none _ S.ids_laid }
@@ -133,10 +138,10 @@ module _ (q : Request) (candidates : ℕ) (es : List LocalEdge) where
   no_events (s ∷ l) e o i S = absurd (omega arith)
 
   module _ (sp : List Spot) (some : 0 < length sp) where
-    pub rays_over_lem : (o : List Float) (i : List ℕ) → rays_over q.k (view_in q) es sp ≡ true → Shows (spotted q candidates es sp) (Refused 8) o i
+    pub rays_over_lem : (o : List Float) (i : List ℕ) → rays_over q.k (view_in q) es sp ≡ true → Shows (spotted q candidates es sp) (Err NoListRoom) o i
     rays_over_lem o i e = shows_eight o i (spotted_some sp some ∙ rw e)
 
-    module _ (e : rays_over q.k (view_in q) es sp ≡ false) (r : Tracing) (o : List Float) (i : List ℕ) (T : Traced (run_of q es sp) q.ids r o i) where
+    module _ (e : rays_over q.k (view_in q) es sp ≡ false) (o : List Float) (i : List ℕ) where
       swept_by : spotted q candidates es sp ≡ swept_of q candidates es sp (run_of q es sp)
       swept_by = spotted_some sp some ∙ rw e
 
@@ -145,141 +150,146 @@ module _ (q : Request) (candidates : ℕ) (es : List LocalEdge) where
       over_by false true d p = refl
       over_by false false d p = absurd (true≢false (sym p))
 
-      swept_over : r.over ≡ true → swept_of q candidates es sp (run_of q es sp) ≡ eight
+      swept_over : traced_over (run_of q es sp) q.ids ≡ true → swept_of q candidates es sp (run_of q es sp) ≡ eight
       unfolding swept_of
-      swept_over p = over_by (run_of q es sp).at.over (ltb q.ids (length (marked_of (run_of q es sp).marks))) _ (sym T.over ∙ p)
+      swept_over p = over_by (run_of q es sp).at.over (ltb q.ids (length (marked_of (run_of q es sp).marks))) _ p
 
-      pub sweep_over : r.over ≡ true → Shows (spotted q candidates es sp) (Refused 8) o i
+      pub sweep_over : traced_over (run_of q es sp) q.ids ≡ true → Shows (spotted q candidates es sp) (Err NoListRoom) o i
       sweep_over p = shows_eight o i (swept_by ∙ swept_over p)
 
-      abbrev drawn : Drawing
-      drawn = record {
-        answer = Seen (record {
-          blocked = false;
-          full = (view_in q).full;
-          points = r.points;
-          visible = r.visible;
-          candidates = candidates;
-          front_edges = length es;
-          events = length sp;
-          rays_cast = length (samples_for (view_in q) sp);
-          refinements = r.refinements;
-        });
-        pts = take (2 * r.points) (run_of q es sp).pts;
-        ids = marked_of (run_of q es sp).marks;
-      }
+      module _ (r : Tracing) (T : Traced (run_of q es sp) q.ids (Some r) o i) where
+        t : TracedTo (run_of q es sp) q.ids r i
+        t = T.by
 
-      swept_is : r.over ≡ false → swept_of q candidates es sp (run_of q es sp) ≡ drawn
-      unfolding swept_of
-      swept_is p =
-          let n = neither (run_of q es sp).at.over (ltb q.ids (length (marked_of (run_of q es sp).marks))) (sym T.over ∙ p) in
-          rw (n.0, n.1, T.points p, T.visible_many p, T.refinements p)
+        abbrev drawn : Drawing
+        drawn = record {
+          answer = Ok (record {
+            blocked = false;
+            full = (view_in q).full;
+            points = r.points;
+            visible = r.visible;
+            candidates = candidates;
+            front_edges = length es;
+            events = length sp;
+            rays_cast = length (samples_for (view_in q) sp);
+            refinements = r.refinements;
+          });
+          pts = take (2 * r.points) (run_of q es sp).pts;
+          ids = marked_of (run_of q es sp).marks;
+        }
 
-      pub sweep_done : r.over ≡ false → {b : Bool} {n m l : ℕ} → b ≡ (view_in q).full → n ≡ length es → m ≡ length sp → l ≡ length (samples_for (view_in q) sp)
-          → Shows (spotted q candidates es sp) (Seen (record { blocked = false; full = b; points = r.points; visible = r.visible; candidates = candidates; front_edges = n; events = m; rays_cast = l; refinements = r.refinements })) o i
-      unfolding points_in ids_in
-      sweep_done p hb hn hm hl =
-          let long : length (take (2 * r.points) (run_of q es sp).pts) ≡ 2 * r.points = length-take-le (2 * r.points) (run_of q es sp).pts (omega (arith, T.within, T.points p)) in
-          rw (swept_by ∙ swept_is p, hb, hn, hm, hl) (record {
-            is = refl;
-            points_many = sym long;
-            ids_many = T.visible_many p;
-            points_laid = ap (λ (j : ℕ). take j o) long ∙ ap (take (2 * r.points)) T.pts;
-            ids_laid = T.ids p;
-          })
+        swept_is : swept_of q candidates es sp (run_of q es sp) ≡ drawn
+        unfolding swept_of
+        swept_is =
+            let n = neither (run_of q es sp).at.over (ltb q.ids (length (marked_of (run_of q es sp).marks))) t.fits in
+            rw (n.0, n.1, t.points, t.visible_many, t.refinements)
+
+        pub sweep_done : {b : Bool} {n m l : ℕ} → b ≡ (view_in q).full → n ≡ length es → m ≡ length sp → l ≡ length (samples_for (view_in q) sp)
+            → Shows (spotted q candidates es sp) (Ok (record { blocked = false; full = b; points = r.points; visible = r.visible; candidates = candidates; front_edges = n; events = m; rays_cast = l; refinements = r.refinements })) o i
+        unfolding points_in ids_in
+        sweep_done hb hn hm hl =
+            let long : length (take (2 * r.points) (run_of q es sp).pts) ≡ 2 * r.points = length-take-le (2 * r.points) (run_of q es sp).pts (omega (arith, T.within, t.points)) in
+            rw (swept_by ∙ swept_is, hb, hn, hm, hl) (record {
+              is = refl;
+              points_many = sym long;
+              ids_many = t.visible_many;
+              points_laid = ap (λ (j : ℕ). take j o) long ∙ ap (take (2 * r.points)) T.pts;
+              ids_laid = t.ids;
+            })
 
 -- the same of what stands in the room
-pub events_none : (q : Request) (candidates edges events : ℕ) (f : List Float) (w : List ℕ) → events ≡ 0 → {r : Visibility} (o : List Float) (i : List ℕ)
+pub events_none : (q : Request) (candidates edges events : ℕ) (f : List Float) (w : List ℕ) → events ≡ 0 → {r : (Result Shown Refusal)} (o : List Float) (i : List ℕ)
     → Shows (circle_by q.cone q.tolerance candidates edges q.numbers) r o [] → Shows (spotted q candidates (edges_in q.k f w edges) (spots_in q.k f w events)) r o i
 events_none q candidates edges events f w e o i S =
     no_events q candidates (edges_in q.k f w edges) (spots_in q.k f w events) (length_listed (spot_at q.k f w) events ∙ e) o i
     (rw (length_listed (edge_at q.k f w) edges) S)
 
-module _ (q : Request) (candidates edges events : ℕ) (f : List Float) (w : List ℕ) (S : Standing q.k edges events f w) (ne : events ≡ 0 → ⊥) (v : View) (hv : v ≡ view_in q)
-    (c : Casting) (f1 : List Float) (w1 : List ℕ) (C₀ : Casted q.mode q.k v (edges_in q.k f w edges) (spots_in q.k f w events) c f1 w1) (o : List Float) (i : List ℕ) where
-  C : Casted q.mode q.k (view_in q) (edges_in q.k f w edges) (spots_in q.k f w events) c f1 w1
-  C = rw hv at C₀
-
+module _ (q : Request) (candidates edges events : ℕ) (f : List Float) (w : List ℕ) (S : Standing q.k edges events f w) (ne : events ≡ 0 → ⊥) (v : View) (hv : v ≡ view_in q) where
   some : 0 < length (spots_in q.k f w events)
   some = ⊎_elim (λ (h : 0 < events). omega (arith, length_listed (spot_at q.k f w) events)) (λ (h : events ≤ 0). absurd (ne (omega arith))) (lt_or_le 0 events)
 
-  pub events_over_lem : c.over ≡ true → Shows (spotted q candidates (edges_in q.k f w edges) (spots_in q.k f w events)) (Refused 8) o i
-  events_over_lem h = rays_over_lem q candidates (edges_in q.k f w edges) (spots_in q.k f w events) some o i (sym C.over ∙ h)
+  pub events_over_lem : (o : List Float) (i : List ℕ) → rays_over q.k v (edges_in q.k f w edges) (spots_in q.k f w events) ≡ true → Shows (spotted q candidates (edges_in q.k f w edges) (spots_in q.k f w events)) (Err NoListRoom) o i
+  events_over_lem o i h = rays_over_lem q candidates (edges_in q.k f w edges) (spots_in q.k f w events) some o i (rw hv at h)
 
-  module _ (h : c.over ≡ false) (long : length w1 ≡ length w) (step : Float) (hs : step ≡ arc_step_of v.r q.tolerance) (r : Tracing)
-      (T₀ : Traced (run_in q.k c.index f1 w1 v step q.points q.polygons q.owners c.samples q.numbers) q.ids r o i) where
+  module _ (c : Casting) (f1 : List Float) (w1 : List ℕ) (C₀ : CastedTo q.mode q.k v (edges_in q.k f w edges) (spots_in q.k f w events) c f1 w1) (long : length w1 ≡ length w) (step : Float) (hs : step ≡ arc_step_of v.r q.tolerance)
+      (o : List Float) (i : List ℕ) where
+    C : CastedTo q.mode q.k (view_in q) (edges_in q.k f w edges) (spots_in q.k f w events) c f1 w1
+    C = rw hv at C₀
+
     run_same : run_in q.k c.index f1 w1 v step q.points q.polygons q.owners c.samples q.numbers ≡ run_of q (edges_in q.k f w edges) (spots_in q.k f w events)
     run_same =
         ap (λ (z : Float). run_in q.k c.index f1 w1 v z q.points q.polygons q.owners c.samples q.numbers) hs
         ∙ ap (λ (z : View). run_in q.k c.index f1 w1 z (arc_step_of z.r q.tolerance) q.points q.polygons q.owners c.samples q.numbers) hv
-        ∙ run_is q.mode q.k q.cone q.tolerance (edges_in q.k f w edges) (spots_in q.k f w events) c f1 w1 C h (omega (arith, long, S.fit.words_fit))
+        ∙ run_is q.mode q.k q.cone q.tolerance (edges_in q.k f w edges) (spots_in q.k f w events) c f1 w1 C (omega (arith, long, S.fit.words_fit))
         (omega (arith, length_listed (spot_at q.k f w) events, S.events_fit)) q.points q.polygons q.owners q.numbers q.ids
 
-    T : Traced (run_of q (edges_in q.k f w edges) (spots_in q.k f w events)) q.ids r o i
-    T = rw run_same at T₀
+    traced_is : {t : Option Tracing} → Traced (run_in q.k c.index f1 w1 v step q.points q.polygons q.owners c.samples q.numbers) q.ids t o i
+        → Traced (run_of q (edges_in q.k f w edges) (spots_in q.k f w events)) q.ids t o i
+    traced_is T = rw run_same at T
 
-    no_over : rays_over q.k (view_in q) (edges_in q.k f w edges) (spots_in q.k f w events) ≡ false
-    no_over = sym C.over ∙ h
+    pub trace_eight : Traced (run_in q.k c.index f1 w1 v step q.points q.polygons q.owners c.samples q.numbers) q.ids None o i
+        → Shows (spotted q candidates (edges_in q.k f w edges) (spots_in q.k f w events)) (Err NoListRoom) o i
+    trace_eight T = sweep_over q candidates (edges_in q.k f w edges) (spots_in q.k f w events) some C.fits o i (traced_is T).by
 
-    pub trace_eight : r.over ≡ true → Shows (spotted q candidates (edges_in q.k f w edges) (spots_in q.k f w events)) (Refused 8) o i
-    trace_eight p = sweep_over q candidates (edges_in q.k f w edges) (spots_in q.k f w events) some no_over r o i T p
-
-    pub trace_seen : r.over ≡ false
+    pub trace_seen : (r : Tracing) → Traced (run_in q.k c.index f1 w1 v step q.points q.polygons q.owners c.samples q.numbers) q.ids (Some r) o i
         → Shows (spotted q candidates (edges_in q.k f w edges) (spots_in q.k f w events))
-        (Seen (record { blocked = false; full = v.full; points = r.points; visible = r.visible; candidates = candidates; front_edges = edges; events = events; rays_cast = c.samples; refinements = r.refinements })) o i
-    trace_seen p =
-        sweep_done q candidates (edges_in q.k f w edges) (spots_in q.k f w events) some no_over r o i T p (ap (λ (z : View). z.full) hv)
-        (sym (length_listed (edge_at q.k f w) edges)) (sym (length_listed (spot_at q.k f w) events)) (C.samples h)
+        (Ok (record { blocked = false; full = v.full; points = r.points; visible = r.visible; candidates = candidates; front_edges = edges; events = events; rays_cast = c.samples; refinements = r.refinements })) o i
+    trace_seen r T =
+        sweep_done q candidates (edges_in q.k f w edges) (spots_in q.k f w events) some C.fits o i r (traced_is T) (ap (λ (z : View). z.full) hv)
+        (sym (length_listed (edge_at q.k f w) edges)) (sym (length_listed (spot_at q.k f w) events)) C.samples
 
 -- ---- `staged`
-module _ (q : Request) (g : Fanned) (r : Gathering) (f : List Float) (w : List ℕ) (G : Gathered q.k (view_in q) g r f w) where
-  fan_by : (a t b : Bool) (y : Gathering) (p d : Drawing) → r ≡ cond a (gathering 0 0 0 false true) (cond t (gathering 0 0 0 true false) (cond b (gathering 0 0 0 false true) y)) → y.over ≡ false → y.touch ≡ false
-      → (r.over ≡ true → cond a eight (cond t p (cond b eight d)) ≡ eight)
-      × (r.over ≡ false → r.touch ≡ true → cond a eight (cond t p (cond b eight d)) ≡ p)
-      × (r.over ≡ false → r.touch ≡ false → (cond a eight (cond t p (cond b eight d)) ≡ d) × (r ≡ y))
-  fan_by true t b y p d e u v = (λ o. refl, λ o. absurd (true≢false (sym (ap (λ (x : Gathering). x.over) e) ∙ o)), λ o. absurd (true≢false (sym (ap (λ (x : Gathering). x.over) e) ∙ o)))
-  fan_by false true b y p d e u v =
-      (λ o. absurd (true≢false (sym o ∙ ap (λ (x : Gathering). x.over) e)), λ o s. refl, λ o s. absurd (true≢false (sym (ap (λ (x : Gathering). x.touch) e) ∙ s)))
-  fan_by false false true y p d e u v = (λ o. refl, λ o. absurd (true≢false (sym (ap (λ (x : Gathering). x.over) e) ∙ o)), λ o. absurd (true≢false (sym (ap (λ (x : Gathering). x.over) e) ∙ o)))
-  fan_by false false false y p d e u v =
-      (λ o. absurd (true≢false (sym o ∙ ap (λ (x : Gathering). x.over) e ∙ u)), λ o s. absurd (true≢false (sym s ∙ ap (λ (x : Gathering). x.touch) e ∙ v)), λ o s. (refl, e))
+module _ (q : Request) (g : Fanned) (f : List Float) (w : List ℕ) (o : List Float) (i : List ℕ) where
+  full_by : (a t b : Bool) (n e m : ℕ) (p d : Drawing) → Over ≡ cond a Over (cond t Touching (cond b Over (Found n e m))) → cond a eight (cond t p (cond b eight d)) ≡ eight
+  full_by true t b n e m p d z = refl
+  full_by false true b n e m p d z = cc
+  full_by false false true n e m p d z = refl
+  full_by false false false n e m p d z = cc
 
-  ways : (r.over ≡ true → fanned q g ≡ eight)
-      × (r.over ≡ false → r.touch ≡ true → fanned q g ≡ plain true (view_in q).full)
-      × (r.over ≡ false → r.touch ≡ false
-      → (fanned q g ≡ spotted q g.candidates g.edges (spots_for (view_in q) g)) × (r ≡ gathering g.candidates (length g.edges) (length (spots_for (view_in q) g)) false false))
+  touch_by : (a t b : Bool) (n e m : ℕ) (p d : Drawing) → Touching ≡ cond a Over (cond t Touching (cond b Over (Found n e m))) → cond a eight (cond t p (cond b eight d)) ≡ p
+  touch_by true t b n e m p d z = cc
+  touch_by false true b n e m p d z = refl
+  touch_by false false true n e m p d z = cc
+  touch_by false false false n e m p d z = cc
+
+  found_by : (a t b : Bool) (n e m : ℕ) (p d : Drawing) {n' e' m' : ℕ} → Found n' e' m' ≡ cond a Over (cond t Touching (cond b Over (Found n e m))) → (cond a eight (cond t p (cond b eight d)) ≡ d) × (n' ≡ n)
+  found_by true t b n e m p d z = (cc, cc)
+  found_by false true b n e m p d z = (cc, cc)
+  found_by false false true n e m p d z = (cc, cc)
+  found_by false false false n e m p d z = (refl, cc)
+
+  pub gather_over : Gathered q.k (view_in q) g Over f w → Shows (fanned q g) (Err NoListRoom) o i
   unfolding fanned gathering_of
-  ways =
-      fan_by (is_over q.k (length g.edges) (length g.events)) g.touch (events_over q.k (view_in q) g)
-      (gathering g.candidates (length g.edges) (length (spots_for (view_in q) g)) false false) (plain true (view_in q).full) (spotted q g.candidates g.edges (spots_for (view_in q) g)) G.is refl refl
+  gather_over G = shows_eight o i (full_by (is_over q.k (length g.edges) (length g.events)) g.touch (events_over q.k (view_in q) g) _ _ _ _ _ G.is)
 
-  pub gather_over : (o : List Float) (i : List ℕ) → r.over ≡ true → Shows (fanned q g) (Refused 8) o i
-  gather_over o i h = shows_eight o i (ways.0 h)
+  pub gather_touch : Gathered q.k (view_in q) g Touching f w → {a : (Result Shown Refusal)} {b : Bool} → b ≡ (view_in q).full → a ≡ (plain true b).answer → Shows (fanned q g) a o i
+  unfolding fanned gathering_of
+  gather_touch G p e =
+      shows_plain true (view_in q).full o i (e ∙ ap (λ (x : Bool). (plain true x).answer) p)
+      (touch_by (is_over q.k (length g.edges) (length g.events)) g.touch (events_over q.k (view_in q) g) _ _ _ _ _ G.is)
 
-  pub gather_touch : (o : List Float) (i : List ℕ) {a : Visibility} {b : Bool} → r.over ≡ false → r.touch ≡ true → b ≡ (view_in q).full → a ≡ (plain true b).answer → Shows (fanned q g) a o i
-  gather_touch o i h t p e = shows_plain true (view_in q).full o i (e ∙ ap (λ (x : Bool). (plain true x).answer) p) (ways.1 h t)
+  module _ {candidates edges events : ℕ} (G : Gathered q.k (view_in q) g (Found candidates edges events) f w) where
+    ways : (fanned q g ≡ spotted q g.candidates g.edges (spots_for (view_in q) g)) × (candidates ≡ g.candidates)
+    unfolding fanned gathering_of
+    ways = found_by (is_over q.k (length g.edges) (length g.events)) g.touch (events_over q.k (view_in q) g) _ _ _ _ _ G.is
 
-  pub gather_done : (o : List Float) (i : List ℕ) {a : Visibility} → r.over ≡ false → r.touch ≡ false → Shows (spotted q r.candidates (edges_in q.k f w r.edges) (spots_in q.k f w r.events)) a o i
-      → Shows (fanned q g) a o i
-  gather_done o i h t S =
-      let e = ways.2 h t in
-      let c : r.candidates ≡ g.candidates = ap (λ (x : Gathering). x.candidates) e.1 in
-      rw (e.0, ← c, ← G.edges h t, ← G.spots h t) S
+    pub gather_done : {a : (Result Shown Refusal)} → Shows (spotted q candidates (edges_in q.k f w edges) (spots_in q.k f w events)) a o i → Shows (fanned q g) a o i
+    gather_done S = rw (ways.0, ← ways.1, ← G.kept.edges_are, ← G.kept.spots_are) S
 
 -- the same of the scan
-module _ (q : Request) (boxes : List Float) (ids : List ℕ) (v : View) (hv : v ≡ view_in q) (r : Gathering) (f : List Float) (w : List ℕ)
-    (G₀ : Gathered q.k v (fan_of v q.points boxes q.polygons ids) r f w) (o : List Float) (i : List ℕ) where
-  G : Gathered q.k (view_in q) (fan_in q boxes ids) r f w
-  G = rw hv at G₀
+module _ (q : Request) (boxes : List Float) (ids : List ℕ) (v : View) (hv : v ≡ view_in q) (f : List Float) (w : List ℕ) (o : List Float) (i : List ℕ) where
+  by_view : {r : Gathering} → Gathered q.k v (fan_of v q.points boxes q.polygons ids) r f w → Gathered q.k (view_in q) (fan_in q boxes ids) r f w
+  by_view G = rw hv at G
 
-  pub staged_over : r.over ≡ true → Shows (staged_of q boxes ids) (Refused 8) o i
+  pub staged_over : Gathered q.k v (fan_of v q.points boxes q.polygons ids) Over f w → Shows (staged_of q boxes ids) (Err NoListRoom) o i
   unfolding staged_of
-  staged_over h = gather_over q (fan_in q boxes ids) r f w G o i h
+  staged_over G = gather_over q (fan_in q boxes ids) f w o i (by_view G)
 
-  pub staged_touch : {a : Visibility} → r.over ≡ false → r.touch ≡ true → a ≡ (plain true v.full).answer → Shows (staged_of q boxes ids) a o i
+  pub staged_touch : Gathered q.k v (fan_of v q.points boxes q.polygons ids) Touching f w → {a : (Result Shown Refusal)} → a ≡ (plain true v.full).answer → Shows (staged_of q boxes ids) a o i
   unfolding staged_of
-  staged_touch h t e = gather_touch q (fan_in q boxes ids) r f w G o i h t (ap (λ (z : View). z.full) hv) e
+  staged_touch G e = gather_touch q (fan_in q boxes ids) f w o i (by_view G) (ap (λ (z : View). z.full) hv) e
 
-  pub staged_done : {a : Visibility} → r.over ≡ false → r.touch ≡ false → Shows (spotted q r.candidates (edges_in q.k f w r.edges) (spots_in q.k f w r.events)) a o i → Shows (staged_of q boxes ids) a o i
+  pub staged_done : {candidates edges events : ℕ} → Gathered q.k v (fan_of v q.points boxes q.polygons ids) (Found candidates edges events) f w
+      → {a : (Result Shown Refusal)} → Shows (spotted q candidates (edges_in q.k f w edges) (spots_in q.k f w events)) a o i → Shows (staged_of q boxes ids) a o i
   unfolding staged_of
-  staged_done h t S = gather_done q (fan_in q boxes ids) r f w G o i h t S
+  staged_done G S = gather_done q (fan_in q boxes ids) f w o i (by_view G) S

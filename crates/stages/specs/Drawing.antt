@@ -1,13 +1,12 @@
 -- The stages of an outline, one after another, as lists of records: `visibility.rs`, lines 265 to 518. A stage that would pass the entries stated for
 -- one of its lists makes the whole a refusal 8 (document 01, "Refusal numbers"). Every count of the answer is the length of a list, or a count of the
 -- sweep's run. Document 01, "Outlines from a post". Definitions only.
-use Rattle.std.specs.Prelude.{Bool, true, false, not, ◌||◌, cond, List, [], ◌∷◌, ◌++◌, ℕ, ◌*◌, ltb, eqb, length, get_or, take, replicate, Float}
+use Rattle.std.specs.Prelude.{Bool, true, false, not, ◌||◌, cond, List, [], ◌∷◌, ◌++◌, ℕ, ◌*◌, ltb, eqb, length, get_or, take, replicate, Float, Err, Ok, Result, Option}
 use Rattle.std.specs.Float.{nan}
 use Rattle.num.specs.Ops.{zero_f}
 use Rattle.lists.specs.Lists.{cons_if}
 use Rattle.sorts.specs.Sort.{dedup}
 use Rattle.sorts.specs.Visible.{marked_of}
-use Rattle.site.specs.declared.Cast.{Cast}
 use Rattle.cone.specs.declared.ViewCone.{ViewCone}
 use Rattle.cone.specs.declared.View.{View}
 use Rattle.cone.specs.Cone.{is_full_of, view_of, arc_step_of, outline_of, numbers_of}
@@ -25,8 +24,10 @@ use Rattle.credit.specs.Credit.{no_marks}
 use Rattle.rays.specs.Samples.{Turn, samples_of, hit_of, rays_cast}
 use Rattle.refining.specs.Refine.{credits_for, env, Run}
 use Rattle.sweep.specs.Sweep.{Course, begin_of, sweep_of}
-use Rattle.stages.specs.declared.Visibility.{Visibility}
-use Rattle.stages.specs.declared.Visibility.TheVariants.{Seen, Refused}
+use Rattle.refusal.specs.declared.Refusal.{Refusal}
+use Rattle.refusal.specs.declared.Refusal.TheVariants.{NoListRoom}
+use Rattle.stages.specs.declared.Shown.{Shown}
+use Rattle.site.specs.declared.RayHit.{RayHit}
 
 -- what the stages go by: the stated entries, three of the tables, the loaded cone and tolerance, the mode, and how many numbers each output slice holds
 pub record Request : Type 0 where
@@ -49,18 +50,18 @@ view_in q = view_of q.cone
 
 -- ---- the answer with its two lists
 pub record Drawing : Type 0 where
-  pub answer : Visibility
+  pub answer : Result Shown Refusal
   pub pts : List Float
   pub ids : List ℕ
 
 -- a list passes its entries
 abbrev pub eight : Drawing
-eight = record { answer = Refused 8; pts = []; ids = [] }
+eight = record { answer = Err NoListRoom; pts = []; ids = [] }
 
 -- empty or blocked: zero counts
 abbrev pub plain : Bool → Bool → Drawing
 plain blocked full = record {
-  answer = Seen (record { blocked = blocked; full = full; points = 0; visible = 0; candidates = 0; front_edges = 0; events = 0; rays_cast = 0; refinements = 0 });
+  answer = Ok (record { blocked = blocked; full = full; points = 0; visible = 0; candidates = 0; front_edges = 0; events = 0; rays_cast = 0; refinements = 0 });
   pts = [];
   ids = [];
 }
@@ -84,7 +85,7 @@ unfoldable pub circle_by : ViewCone → Float → ℕ → ℕ → ℕ → Drawin
 circle_by cone tolerance candidates edges numbers =
     let l = outline_of cone tolerance in
     cond (ltb numbers (2 * length l)) eight (record {
-      answer = Seen (record { blocked = false; full = is_full_of cone; points = length l; visible = 0; candidates = candidates; front_edges = edges; events = 0; rays_cast = 0; refinements = 0 });
+      answer = Ok (record { blocked = false; full = is_full_of cone; points = length l; visible = 0; candidates = candidates; front_edges = edges; events = 0; rays_cast = 0; refinements = 0 });
       pts = numbers_of l;
       ids = [];
     })
@@ -117,7 +118,7 @@ abbrev pub index_for : Request → List LocalEdge → Index
 index_for q edges = index_of q.mode (view_in q).fov edges
 
 -- what it goes by: a cast for each angle, the credits of each hit, and the rest of the request
-abbrev pub course_by : (Float → Cast) → (Float → ℕ → List ℕ) → Request → List Spot → Course
+abbrev pub course_by : (Float → (Option RayHit)) → (Float → ℕ → List ℕ) → Request → List Spot → Course
 course_by cast credits q spots = record {
   env = env cast credits (view_in q) q.points q.polygons q.owners q.k.owners;
   step = arc_step_of (view_in q).r q.tolerance;
@@ -138,7 +139,7 @@ swept_of q candidates edges spots run =
     let ids = marked_of run.marks in
     cond run.at.over eight
     (cond (ltb q.ids (length ids)) eight (record {
-      answer = Seen (record {
+      answer = Ok (record {
         blocked = false;
         full = (view_in q).full;
         points = run.at.points;

@@ -1,9 +1,8 @@
 -- THE SWEEP BY THE RUST'S RULE ALONE, without a mode (`visibility.rs`, lines 380 to 510): each ray is answered by `rust_cast` (crate `index`), and a hit has one entry,
 -- that of the edge answered. Mode 0 is this: `rust_run_lem` (proofs/Rusts.antt). Definitions only.
-use Rattle.std.specs.Prelude.{List, [], ◌∷◌, map, ℕ, replicate, Float}
+use Rattle.std.specs.Prelude.{List, [], ◌∷◌, map, ℕ, replicate, Float, Option}
 use Rattle.num.specs.Ops.{◌⊕◌, zero_f}
 use Rattle.geom.specs.Vec.{from_angle_of}
-use Rattle.site.specs.declared.Cast.{Cast}
 use Rattle.cone.specs.declared.View.{View}
 use Rattle.room.specs.declared.LocalEdge.{LocalEdge}
 use Rattle.room.specs.declared.Sample.{Sample}
@@ -16,9 +15,10 @@ use Rattle.refining.specs.Refine.{Run}
 use Rattle.sweep.specs.Sweep.{Course, begin_of, sweep_of}
 use Rattle.credit.specs.Credit.{no_marks}
 use Rattle.stages.specs.Drawing.{Request, view_in, samples_for, course_by}
+use Rattle.site.specs.declared.RayHit.{RayHit}
 
 -- what the ray at an angle hits
-unfoldable pub rust_hit : View → Index → Float → Cast
+unfoldable pub rust_hit : View → Index → Float → Option RayHit
 rust_hit view x angle = rust_cast x view.o angle (from_angle_of (view.start ⊕ angle)) view.r
 
 -- the rays in order of angle, each with its answer

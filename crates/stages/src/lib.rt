@@ -17,7 +17,9 @@ ghost use Rattle.stages.specs.Held.{Gathered, Standing, Casted, run_in, Traced};
 
 use cone::{View, ViewCone};
 use index::AngularIndex;
+use refusal::Refusal;
 use room::Rooms;
+use site::SiteTables;
 
 // An outline: whether the post is blocked, whether the cone is full, how many points and visible ids stand in the output slices, and the counts of the
 // Rust's statistics.
@@ -34,21 +36,16 @@ pub struct Shown {
     pub refinements: usize,
 }
 
-// What the call answers. A refusal carries its number.
+// What the candidates come to: a list is over, the post stands on an edge, or their front edges and merged events are found.
 #[derive(Clone, Copy)]
-pub enum Visibility {
-    Seen(Shown),
-    Refused(u32),
-}
-
-// The front edges and merged events of the candidates.
-#[derive(Clone, Copy)]
-struct Gathering {
-    candidates: usize,
-    edges: usize,
-    events: usize,
-    touch: bool,
-    over: bool,
+enum Gathering {
+    Over,
+    Touching,
+    Found {
+        candidates: usize,
+        edges: usize,
+        events: usize,
+    },
 }
 
 // The index of the edges, and how many rays are cast.
@@ -56,7 +53,6 @@ struct Gathering {
 struct Casting {
     index: AngularIndex,
     samples: usize,
-    over: bool,
 }
 
 // What the sweep leaves in the output slices.
@@ -65,7 +61,6 @@ struct Tracing {
     points: usize,
     visible: usize,
     refinements: usize,
-    over: bool,
 }
 
 // ---- the stages
@@ -74,64 +69,33 @@ struct Tracing {
 fn gather(
     k: Rooms,
     view: View,
-    points: &[f64],
-    boxes: &[f64],
-    polygons: &[u32],
+    tables: &SiteTables,
     n: usize,
     floats: &mut [f64],
     words: &mut [u32],
 ) -> Gathering
-    requires { Ready k polygons.now n floats.old words.old }
-    ensures { Gathered k view (fan_of view points.now boxes.now polygons.now (take n words.old)) result floats.new words.new }
+    requires { Ready k tables.now.polygons.now n floats.old words.old }
+    ensures { Gathered k view (fan_of view tables.now.points.now tables.now.boxes.now tables.now.polygons.now (take n words.old)) result floats.new words.new }
 {
-    let f = fan::front_edges(
-        k,
-        view,
-        points,
-        boxes,
-        polygons,
-        n,
-        &mut *floats,
-        &mut *words,
-    );
+    let f = fan::front_edges(k, view, tables, n, &mut *floats, &mut *words);
     if f.over {
-        return Gathering {
-            candidates: 0,
-            edges: 0,
-            events: 0,
-            touch: false,
-            over: true,
-        };
+        return Gathering::Over;
     }
     if f.touch {
-        return Gathering {
-            candidates: 0,
-            edges: 0,
-            events: 0,
-            touch: true,
-            over: false,
-        };
+        return Gathering::Touching;
     }
     let m = events::merge_events(k, view.full, view.fov, f.events as u32, floats, words);
     if m.over {
-        return Gathering {
-            candidates: 0,
-            edges: 0,
-            events: 0,
-            touch: false,
-            over: true,
-        };
+        return Gathering::Over;
     }
-    Gathering {
+    Gathering::Found {
         candidates: f.candidates,
         edges: f.edges,
         events: m.events,
-        touch: false,
-        over: false,
     }
 }
 
-// The index of the edges, and the rays of the merged events.
+// The index of the edges, and the rays of the merged events; none where a list is over.
 fn cast_rays(
     k: Rooms,
     view: View,
@@ -140,65 +104,55 @@ fn cast_rays(
     floats: &mut [f64],
     words: &mut [u32],
     mode: u32,
-) -> Casting
+) -> Option<Casting>
     requires { Standing k edges events floats.old words.old }
     ensures { Casted mode k view (edges_in k floats.old words.old edges) (spots_in k floats.old words.old events) result floats.new words.new }
 {
     let b = index::build(mode, k, edges, view.fov, &*floats, &mut *words);
-    let x = b.index;
     if b.over {
-        return Casting {
-            index: x,
-            samples: 0,
-            over: true,
-        };
+        return None;
     }
-    let r = rays::sample_rays(k, view, x, events as u32, floats, words);
-    Casting {
-        index: x,
+    let index = b.index;
+    let r = rays::sample_rays(k, view, index, events as u32, floats, words);
+    if r.over {
+        return None;
+    }
+    Some(Casting {
+        index,
         samples: r.samples,
-        over: r.over,
-    }
+    })
 }
 
-// The outline of the n rays, and the ids of the polygons seen, rising.
+// The outline of the n rays, and the ids of the polygons seen, rising; none where a list is over.
 fn trace(
     k: Rooms,
     x: AngularIndex,
     view: View,
     step: f64,
     n: u32,
-    points: &[f64],
-    polygons: &[u32],
-    owners: &[u32],
+    tables: &SiteTables,
     floats: &[f64],
     words: &mut [u32],
     outline: &mut [f64],
     visible: &mut [u32],
-) -> Tracing
-    requires { (words_for k ≤ length words.old) × Noted k view.start (Spared k x floats.now (part 0 (seen_w k) words.old) owners.now view) floats.now (part 0 (seen_w k) words.old) n }
-    ensures { Traced (run_in k x floats.now words.old view step points.now polygons.now owners.now n (length outline.old)) (length visible.old) result outline.new visible.new }
+) -> Option<Tracing>
+    requires { (words_for k ≤ length words.old) × Noted k view.start (Spared k x floats.now (part 0 (seen_w k) words.old) tables.now.owners.now view) floats.now (part 0 (seen_w k) words.old) n }
+    ensures { Traced (run_in k x floats.now words.old view step tables.now.points.now tables.now.polygons.now tables.now.owners.now n (length outline.old)) (length visible.old) result outline.new visible.new }
 {
     let mut marks = [0u8; 4096];
-    lists::clear64(&mut *outline);
+    lists::clear(&mut *outline);
     let t = sweep::sweep(
-        k, x, floats, points, polygons, owners, words, outline, &mut marks, view, step, n,
+        k, x, floats, tables, words, outline, &mut marks, view, step, n,
     );
     let ids = sorts::list_marked(&marks, &mut *visible);
-    if visible.len() < ids {
-        return Tracing {
-            points: 0,
-            visible: 0,
-            refinements: 0,
-            over: true,
-        };
+    if t.over || visible.len() < ids {
+        return None;
     }
-    Tracing {
+    Some(Tracing {
         points: t.points,
         visible: ids,
         refinements: t.refinements,
-        over: t.over,
-    }
+    })
 }
 
 // ---- the answer
@@ -210,14 +164,14 @@ fn circle(
     candidates: usize,
     edges: usize,
     outline: &mut [f64],
-) -> Visibility
+) -> Result<Shown, Refusal>
     ensures { Shows (circle_by cone tolerance candidates edges (length outline.old)) result outline.new [] }
 {
     let n = cone.draw(tolerance, &mut *outline);
     if outline.len() / 2 < n {
-        return Visibility::Refused(8);
+        return Err(Refusal::NoListRoom);
     }
-    Visibility::Seen(Shown {
+    Ok(Shown {
         blocked: false,
         full: cone.is_full(),
         points: n,
@@ -238,47 +192,40 @@ fn sweep_events(
     candidates: usize,
     edges: usize,
     events: usize,
-    points: &[f64],
-    polygons: &[u32],
-    owners: &[u32],
+    tables: &SiteTables,
     floats: &mut [f64],
     words: &mut [u32],
     outline: &mut [f64],
     visible: &mut [u32],
     mode: u32,
-) -> Visibility
+) -> Result<Shown, Refusal>
     requires { Standing k edges events floats.old words.old }
-    ensures { Shows (spotted (request k points.now polygons.now owners.now cone tolerance mode (length outline.old) (length visible.old))
+    ensures { Shows (spotted (request k tables.now.points.now tables.now.polygons.now tables.now.owners.now cone tolerance mode (length outline.old) (length visible.old))
         candidates (edges_in k floats.old words.old edges) (spots_in k floats.old words.old events)) result outline.new visible.new }
 {
     if events == 0 {
         return circle(cone, tolerance, candidates, edges, outline);
     }
     let view = cone::view_of(cone);
-    let c = cast_rays(k, view, edges, events, &mut *floats, &mut *words, mode);
-    if c.over {
-        return Visibility::Refused(8);
-    }
-    let x = c.index;
+    let Some(c) = cast_rays(k, view, edges, events, &mut *floats, &mut *words, mode) else {
+        return Err(Refusal::NoListRoom);
+    };
     let step = cone::arc_step(view.r, tolerance);
-    let t = trace(
+    let Some(t) = trace(
         k,
-        x,
+        c.index,
         view,
         step,
         c.samples as u32,
-        points,
-        polygons,
-        owners,
+        tables,
         floats,
         words,
         outline,
         visible,
-    );
-    if t.over {
-        return Visibility::Refused(8);
-    }
-    Visibility::Seen(Shown {
+    ) else {
+        return Err(Refusal::NoListRoom);
+    };
+    Ok(Shown {
         blocked: false,
         full: view.full,
         points: t.points,
@@ -292,10 +239,10 @@ fn sweep_events(
 }
 
 // An answer with zero counts.
-pub fn plain(blocked: bool, full: bool) -> Visibility
+pub fn plain(blocked: bool, full: bool) -> Result<Shown, Refusal>
     ensures { result ≡ (plain blocked full).answer }
 {
-    Visibility::Seen(Shown {
+    Ok(Shown {
         blocked,
         full,
         points: 0,
@@ -314,51 +261,29 @@ pub fn staged(
     cone: ViewCone,
     tolerance: f64,
     n: usize,
-    points: &[f64],
-    boxes: &[f64],
-    polygons: &[u32],
-    owners: &[u32],
+    tables: &SiteTables,
     floats: &mut [f64],
     words: &mut [u32],
     outline: &mut [f64],
     visible: &mut [u32],
     mode: u32,
-) -> Visibility
-    requires { Ready k polygons.now n floats.old words.old }
-    ensures { Shows (staged_of (request k points.now polygons.now owners.now cone tolerance mode (length outline.old) (length visible.old))
-        boxes.now (take n words.old)) result outline.new visible.new }
+) -> Result<Shown, Refusal>
+    requires { Ready k tables.now.polygons.now n floats.old words.old }
+    ensures { Shows (staged_of (request k tables.now.points.now tables.now.polygons.now tables.now.owners.now cone tolerance mode (length outline.old) (length visible.old))
+        tables.now.boxes.now (take n words.old)) result outline.new visible.new }
 {
     let view = cone::view_of(cone);
-    let g = gather(
-        k,
-        view,
-        points,
-        boxes,
-        polygons,
-        n,
-        &mut *floats,
-        &mut *words,
-    );
-    if g.over {
-        return Visibility::Refused(8);
+    let g = gather(k, view, tables, n, &mut *floats, &mut *words);
+    match g {
+        Gathering::Over => Err(Refusal::NoListRoom),
+        Gathering::Touching => plain(true, view.full),
+        Gathering::Found {
+            candidates,
+            edges,
+            events,
+        } => sweep_events(
+            k, cone, tolerance, candidates, edges, events, tables, floats, words, outline, visible,
+            mode,
+        ),
     }
-    if g.touch {
-        return plain(true, view.full);
-    }
-    sweep_events(
-        k,
-        cone,
-        tolerance,
-        g.candidates,
-        g.edges,
-        g.events,
-        points,
-        polygons,
-        owners,
-        floats,
-        words,
-        outline,
-        visible,
-        mode,
-    )
 }

@@ -1,10 +1,8 @@
 -- The walk in lent lists is the walk over the recorder `bounded`. Assumes nothing.
-use Rattle.std.proofs.Common.{◌≡◌, ℕ, zero, suc, ◌-◌, Bool, true, false, cond, eqb, ltb, List, [], ◌∷◌, length, sym, refl, ap, ◌∙◌}
+use Rattle.std.proofs.Common.{◌≡◌, ℕ, zero, suc, ◌-◌, Bool, true, false, cond, eqb, ltb, List, [], ◌∷◌, length, sym, refl, ap, ◌∙◌, None, Option, Some}
 use lib.Ieee.{Float, lt}
 use Rattle.num.specs.Ops.{◌⊖◌, ◌⊗◌}
 use Rattle.geom.specs.declared.Vec2.{Vec2}
-use Rattle.site.specs.declared.Cast.{Cast}
-use Rattle.site.specs.declared.Cast.TheVariants.{Hit, Miss}
 use Rattle.site.specs.Tables.{point_at}
 use Rattle.room.specs.declared.Sample.{Sample}
 use Rattle.cone.specs.Cone.{three}
@@ -16,12 +14,13 @@ use Rattle.refining.specs.declared.Turn.{Turn}
 use Rattle.refining.specs.declared.Turn.TheVariants.{Stop, Open, Hidden}
 use Rattle.refining.specs.Refine.{point_of, Env, end_of, turn_of, Run, run_at, counting, pushing, owning, halve, refine_of}
 use Rattle.seen.specs.Seen.{scene, seen_of, push_all, passed, see_of}
-use Rattle.sweep.specs.declared.Next.{Next}
-use Rattle.sweep.specs.declared.Next.TheVariants.{To, Last}
+use Rattle.std.specs.Prelude.{Option, Some, None}
 use Rattle.room.specs.Constants.{angle_eps}
 use Rattle.sweep.specs.Sweep.{is_pair, next_of, emit_of, steps_of, arc_point, arc_of, gap_of, Course, between_of, visit_of, walk_of, sweep_of}
 use Rattle.sweep.specs.Recorder.{own_one, owns_with, halve_with, refine_with, emit_with, arc_with, gap_with, between_with, visit_with, walk_with, sweep_with, bounded}
 use Rattle.sweep.proofs.Sim.{any_half}
+use Rattle.site.specs.Hits.{hit_at}
+use Rattle.site.specs.declared.RayHit.{RayHit}
 
 -- ---- a run that is over stays as it is
 module _ (o : Vec2) (s : Run) (h : s.at.over ≡ true) where
@@ -99,10 +98,10 @@ module _ (v : Env) (seen : ℕ) where
   refine_bounded (suc f) a b s = refine_step f (refine_bounded f) a b s s.at.over refl
 
   -- ---- a sample, and what lies between two
-  emit_bounded : (a : Sample) (s : Run) (h : Cast) → a.hit ≡ h → emit_of v.view v.room v.owners v.credits a s ≡ emit_with (bounded v seen) h v a.angle s
+  emit_bounded : (a : Sample) (s : Run) (h : (Option RayHit)) → a.hit ≡ h → emit_of v.view v.room v.owners v.credits a s ≡ emit_with (bounded v seen) h v a.angle s
   unfolding emit_of
-  emit_bounded a s (Hit t e) x = rw x (ap (pushing v.view.o (point_of v.view a.angle (Hit t e)) e) (owns_bounded (v.credits a.angle e) s))
-  emit_bounded a s Miss x = rw x
+  emit_bounded a s (Some h) x = rw x (ap (pushing v.view.o (point_of v.view a.angle (hit_at h.t h.edge)) h.edge) (owns_bounded (v.credits a.angle h.edge) s))
+  emit_bounded a s None x = rw x
 
   arc_bounded : (angle gap : Float) (steps i n : ℕ) (s : Run)
       → run_at (arc_of v.view angle gap steps i n (out s.pts s.at)).pts s.marks (arc_of v.view angle gap steps i n (out s.pts s.at)).at
@@ -111,15 +110,15 @@ module _ (v : Env) (seen : ℕ) where
   arc_bounded angle gap steps i zero s = refl
   arc_bounded angle gap steps i (suc n) s = arc_bounded angle gap steps (suc i) n (pushing v.view.o (arc_point v.view angle gap steps i) corner s)
 
-  gap_bounded : (step : Float) (a b : Sample) (s : Run) (h g : Cast) → a.hit ≡ h → b.hit ≡ g → gap_of v step a b s ≡ gap_with (bounded v seen) h g v step a.angle b.angle s
+  gap_bounded : (step : Float) (a b : Sample) (s : Run) (h g : (Option RayHit)) → a.hit ≡ h → b.hit ≡ g → gap_of v step a b s ≡ gap_with (bounded v seen) h g v step a.angle b.angle s
   unfolding gap_of
-  gap_bounded step a b s Miss Miss x y =
+  gap_bounded step a b s None None x y =
       rw (x, y) (arc_bounded a.angle (b.angle ⊖ a.angle) (steps_of (b.angle ⊖ a.angle) step) 1 (steps_of (b.angle ⊖ a.angle) step - 1) s)
-  gap_bounded step a b s Miss (Hit u f) x y = rw (x, y)
-  gap_bounded step a b s (Hit t e) Miss x y = rw (x, y)
-  gap_bounded step a b s (Hit t e) (Hit u f) x y =
+  gap_bounded step a b s None (Some h) x y = rw (x, y)
+  gap_bounded step a b s (Some h) None x y = rw (x, y)
+  gap_bounded step a b s (Some h) (Some q) x y =
       rw (x, y)
-      (ap (λ (z : Run). cond (eqb e f) s (cond (lt (three ⊗ angle_eps) (b.angle ⊖ a.angle)) z s)) (refine_bounded 33 (end_of a.angle e) (end_of b.angle f) s))
+      (ap (λ (z : Run). cond (eqb h.edge q.edge) s (cond (lt (three ⊗ angle_eps) (b.angle ⊖ a.angle)) z s)) (refine_bounded 33 (end_of a.angle h.edge) (end_of b.angle q.edge) s))
 
 -- ---- the walk
 module _ (c : Course) where
@@ -129,13 +128,13 @@ module _ (c : Course) where
       ap (λ (q : Run). cond (is_pair a b) ((bounded c.env c.seen).see (seen_of (scene c.env.view c.env.points c.env.polygons c.env.owners a.hit b.hit) (c.corners a.event)) s) q)
       (gap_bounded c.env c.seen c.step a b s a.hit b.hit refl refl)
 
-  visit_bounded : (a : Sample) (n : Next) (s : Run)
+  visit_bounded : (a : Sample) (n : Option Sample) (s : Run)
       → visit_of c a n s ≡ visit_with (bounded c.env c.seen) c a n (emit_with (bounded c.env c.seen) a.hit c.env a.angle s)
   unfolding visit_of
-  visit_bounded a (To b) s =
+  visit_bounded a (Some b) s =
       ap (between_of c a b) (emit_bounded c.env c.seen a s a.hit refl)
       ∙ between_bounded a b (emit_with (bounded c.env c.seen) a.hit c.env a.angle s)
-  visit_bounded a Last s = emit_bounded c.env c.seen a s a.hit refl
+  visit_bounded a None s = emit_bounded c.env c.seen a s a.hit refl
 
   walk_bounded : (first : Sample) (l : List Sample) (s : Run) → walk_of c first l s ≡ walk_with (bounded c.env c.seen) c first l s
   unfolding walk_of walk_with

@@ -1,12 +1,8 @@
 -- THE RUST'S RUN GOES BY NO BOUND (`sweep_same`): the walk over a recorder that keeps to no entries is the same whatever entries the course states, of the owners and of
 -- the corners seen. Assumes nothing.
-use Rattle.std.proofs.Common.{◌≡◌, ℕ, zero, suc, cond, eqb, List, [], ◌∷◌, refl, ap, ◌∙◌}
+use Rattle.std.proofs.Common.{◌≡◌, ℕ, zero, suc, cond, eqb, List, [], ◌∷◌, refl, ap, ◌∙◌, None, Option, Some}
 use lib.Ieee.{Float, lt}
 use Rattle.num.specs.Ops.{◌⊖◌, ◌⊗◌}
-use Rattle.geom.specs.declared.Meeting.{Meeting}
-use Rattle.geom.specs.declared.Meeting.TheVariants.{At, Nowhere}
-use Rattle.site.specs.declared.Cast.{Cast}
-use Rattle.site.specs.declared.Cast.TheVariants.{Hit, Miss}
 use Rattle.site.specs.Tables.{edge_of}
 use Rattle.cone.specs.declared.View.{View}
 use Rattle.cone.specs.Cone.{three}
@@ -16,21 +12,22 @@ use Rattle.refining.specs.declared.End.{End}
 use Rattle.refining.specs.declared.Turn.{Turn}
 use Rattle.refining.specs.declared.Turn.TheVariants.{Stop, Open, Hidden}
 use Rattle.refining.specs.Refine.{Env, env, meet_of, turn_by, turn_of, end_of}
-use Rattle.sweep.specs.declared.Next.{Next}
-use Rattle.sweep.specs.declared.Next.TheVariants.{To, Last}
+use Rattle.std.specs.Prelude.{Option, Some, None}
 use Rattle.sweep.specs.Sweep.{is_pair, next_of, Course}
 use Rattle.sweep.specs.Recorder.{Recorder, halve_with, refine_with, emit_with, gap_with, between_with, visit_with, walk_with, sweep_with}
+use Rattle.geom.specs.declared.Vec2.{Vec2}
+use Rattle.site.specs.declared.RayHit.{RayHit}
 
-module _ (cast : Float → Cast) (credits : Float → ℕ → List ℕ) (view : View) (points : List Float) (polygons owners : List ℕ) (room room' : ℕ) where
+module _ (cast : Float → (Option RayHit)) (credits : Float → ℕ → List ℕ) (view : View) (points : List Float) (polygons owners : List ℕ) (room room' : ℕ) where
   abbrev one : Env
   one = env cast credits view points polygons owners room
 
   abbrev two : Env
   two = env cast credits view points polygons owners room'
 
-  turn_by_lem : (m : Meeting) (a b : End) → turn_by m one a b ≡ turn_by m two a b
-  turn_by_lem (At p) a b = refl
-  turn_by_lem Nowhere a b = refl
+  turn_by_lem : (m : (Option Vec2)) (a b : End) → turn_by m one a b ≡ turn_by m two a b
+  turn_by_lem (Some p) a b = refl
+  turn_by_lem None a b = refl
 
   turn_same : (a b : End) → turn_of one a b ≡ turn_of two a b
   unfolding turn_of
@@ -49,16 +46,16 @@ module _ (cast : Float → Cast) (credits : Float → ℕ → List ℕ) (view : 
         ap (λ (t : Turn). halve_with r (refine_with r one n) one a b t s) (turn_same a b)
         ∙ halve_same (refine_with r one n) (refine_with r two n) (refine_same n) a b (turn_of two a b) s
 
-    emit_same : (c : Cast) (angle : Float) (s : S) → emit_with r c one angle s ≡ emit_with r c two angle s
-    emit_same (Hit t e) angle s = refl
-    emit_same Miss angle s = refl
+    emit_same : (c : (Option RayHit)) (angle : Float) (s : S) → emit_with r c one angle s ≡ emit_with r c two angle s
+    emit_same (Some h) angle s = refl
+    emit_same None angle s = refl
 
-    gap_same : (c d : Cast) (step from to : Float) (s : S) → gap_with r c d one step from to s ≡ gap_with r c d two step from to s
-    gap_same Miss Miss step from to s = refl
-    gap_same Miss (Hit u f) step from to s = refl
-    gap_same (Hit t e) Miss step from to s = refl
-    gap_same (Hit t e) (Hit u f) step from to s =
-        ap (λ (x : S). cond (eqb e f) s (cond (lt (three ⊗ angle_eps) (to ⊖ from)) x s)) (refine_same 33 (end_of from e) (end_of to f) s)
+    gap_same : (c d : (Option RayHit)) (step from to : Float) (s : S) → gap_with r c d one step from to s ≡ gap_with r c d two step from to s
+    gap_same None None step from to s = refl
+    gap_same None (Some h) step from to s = refl
+    gap_same (Some h) None step from to s = refl
+    gap_same (Some h) (Some q) step from to s =
+        ap (λ (x : S). cond (eqb h.edge q.edge) s (cond (lt (three ⊗ angle_eps) (to ⊖ from)) x s)) (refine_same 33 (end_of from h.edge) (end_of to q.edge) s)
 
     module _ (step : Float) (seen seen' : ℕ) (corners : ℕ → List ℕ) where
       abbrev here : Course
@@ -71,9 +68,9 @@ module _ (cast : Float → Cast) (credits : Float → ℕ → List ℕ) (view : 
       unfolding between_with
       between_same a b s = ap (cond (is_pair a b) _) (gap_same a.hit b.hit step a.angle b.angle s)
 
-      visit_same : (a : Sample) (n : Next) (s : S) → visit_with r here a n s ≡ visit_with r there a n s
-      visit_same a (To b) s = between_same a b s
-      visit_same a Last s = refl
+      visit_same : (a : Sample) (n : Option Sample) (s : S) → visit_with r here a n s ≡ visit_with r there a n s
+      visit_same a (Some b) s = between_same a b s
+      visit_same a None s = refl
 
       walk_same : (first : Sample) (l : List Sample) (s : S) → walk_with r here first l s ≡ walk_with r there first l s
       unfolding walk_with

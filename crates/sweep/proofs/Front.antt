@@ -24,8 +24,7 @@ use Rattle.index.proofs.Kept.{index_kept}
 use Rattle.sorts.specs.Sort.{dedup}
 use Rattle.refining.specs.Refine.{Run}
 use Rattle.seen.specs.Seen.{corner_at, first_corner, corners_of}
-use Rattle.sweep.specs.declared.Next.{Next}
-use Rattle.sweep.specs.declared.Next.TheVariants.{To, Last}
+use Rattle.std.specs.Prelude.{Option, Some, None}
 use Rattle.sweep.specs.Sweep.{sample_in, next_of, Course, between_of, visit_of, walk_of, sweep_of}
 
 module _ (k : Rooms) (words : List ℕ) where
@@ -72,10 +71,10 @@ module _ (c : Course) (corners : ℕ → List ℕ) where
   unfolding between_of
   same_between a b s e = rw e
 
-  same_visit : (a : Sample) (n : Next) (s : Run) → c.corners a.event ≡ corners a.event → visit_of c a n s ≡ visit_of (with_corners c corners) a n s
+  same_visit : (a : Sample) (n : Option Sample) (s : Run) → c.corners a.event ≡ corners a.event → visit_of c a n s ≡ visit_of (with_corners c corners) a n s
   unfolding visit_of
-  same_visit a (To b) s e = same_between a b _ e
-  same_visit a Last s e = refl
+  same_visit a (Some b) s e = same_between a b _ e
+  same_visit a None s e = refl
 
   same_walk : (first : Sample) (l : List Sample) (s : Run) → All (λ a. c.corners a.event ≡ corners a.event) l → walk_of c first l s ≡ walk_of (with_corners c corners) first l s
   unfolding walk_of

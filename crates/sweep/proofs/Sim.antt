@@ -1,11 +1,9 @@
 -- Two recorders of one walk: what each of their steps keeps, the walk keeps. Assumes nothing.
-use Rattle.std.proofs.Common.{ℕ, zero, suc, ◌-◌, Bool, true, false, cond, eqb, List, [], ◌∷◌, refl, inl, inr}
+use Rattle.std.proofs.Common.{ℕ, zero, suc, ◌-◌, Bool, true, false, cond, eqb, List, [], ◌∷◌, refl, inl, inr, None, Option, Some}
 use lib.Ieee.{Float, lt}
 use Rattle.lists.specs.Members.{In}
 use Rattle.num.specs.Ops.{◌⊖◌, ◌⊗◌}
 use Rattle.geom.specs.declared.Vec2.{Vec2}
-use Rattle.site.specs.declared.Cast.{Cast}
-use Rattle.site.specs.declared.Cast.TheVariants.{Hit, Miss}
 use Rattle.room.specs.declared.Sample.{Sample}
 use Rattle.cone.specs.declared.View.{View}
 use Rattle.cone.specs.Cone.{three}
@@ -15,11 +13,12 @@ use Rattle.refining.specs.declared.Turn.{Turn}
 use Rattle.refining.specs.declared.Turn.TheVariants.{Stop, Open, Hidden}
 use Rattle.refining.specs.Refine.{point_of, Env, crossing_of, end_of, turn_of}
 use Rattle.seen.specs.Seen.{scene, seen_of}
-use Rattle.sweep.specs.declared.Next.{Next}
-use Rattle.sweep.specs.declared.Next.TheVariants.{To, Last}
+use Rattle.std.specs.Prelude.{Option, Some, None}
 use Rattle.room.specs.Constants.{angle_eps}
 use Rattle.sweep.specs.Sweep.{is_pair, next_of, steps_of, arc_point, Course}
 use Rattle.sweep.specs.Recorder.{Recorder, owns_with, halve_with, refine_with, emit_with, arc_with, gap_with, between_with, visit_with, walk_with, sweep_with}
+use Rattle.site.specs.Hits.{hit_at}
+use Rattle.site.specs.declared.RayHit.{RayHit}
 
 -- the credits of an edge that hides a crossing at an angle have a property, and so have those of one that a sample's ray hits
 abbrev pub Turns : Env → (Float → List ℕ → Type 0) → Turn → Type 0
@@ -27,18 +26,18 @@ Turns v H Stop = Unit {0}
 Turns v H (Open p) = Unit {0}
 Turns v H (Hidden p w e) = H w (v.credits w e)
 
-abbrev pub HitsAt : Env → (List ℕ → Type 0) → Float → Cast → Type 0
-HitsAt v E angle (Hit t e) = E (v.credits angle e)
-HitsAt v E angle Miss = Unit {0}
+abbrev pub HitsAt : Env → (List ℕ → Type 0) → Float → (Option RayHit) → Type 0
+HitsAt v E angle (Some h) = E (v.credits angle h.edge)
+HitsAt v E angle None = Unit {0}
 
 turns_any : (v : Env) (t : Turn) → Turns v (λ _ _. Unit {0}) t
 turns_any v Stop = tt
 turns_any v (Open p) = tt
 turns_any v (Hidden p w e) = tt
 
-hits_any : (v : Env) (angle : Float) (h : Cast) → HitsAt v (λ _. Unit {0}) angle h
-hits_any v angle (Hit t e) = tt
-hits_any v angle Miss = tt
+hits_any : (v : Env) (angle : Float) (h : (Option RayHit)) → HitsAt v (λ _. Unit {0}) angle h
+hits_any v angle (Some h) = tt
+hits_any v angle None = tt
 
 -- what one entry keeps, several keep
 owns_each : {S T : Type 0} (r : Recorder S) (q : Recorder T) (R : S → T → Type 0) → ((e : ℕ) (s : S) (u : T) → R s u → R (r.own e s) (q.own e u))
@@ -70,10 +69,10 @@ module _ {S T : Type 0} (r : Recorder S) (q : Recorder T) (R : S → T → Type 
   sim_refine v hv zero a b s u k = k
   sim_refine v hv (suc n) a b s u k = sim_halve (refine_with r v n) (refine_with q v n) (sim_refine v hv n) v a b (turn_of v a b) (hv a b) s u k
 
-  sim_emit : (v : Env) (angle : Float) (h : Cast) → HitsAt v E angle h → (s : S) (u : T) → R s u → R (emit_with r h v angle s) (emit_with q h v angle u)
-  sim_emit v angle (Hit t e) hh s u k =
-      let l = v.credits angle e in push (point_of v.view angle (Hit t e)) e (owns_with r l s) (owns_with q l u) (owns l hh s u k)
-  sim_emit v angle Miss hh s u k = push (point_of v.view angle Miss) corner s u k
+  sim_emit : (v : Env) (angle : Float) (h : (Option RayHit)) → HitsAt v E angle h → (s : S) (u : T) → R s u → R (emit_with r h v angle s) (emit_with q h v angle u)
+  sim_emit v angle (Some h) hh s u k =
+      let l = v.credits angle h.edge in push (point_of v.view angle (hit_at h.t h.edge)) h.edge (owns_with r l s) (owns_with q l u) (owns l hh s u k)
+  sim_emit v angle None hh s u k = push (point_of v.view angle None) corner s u k
 
   sim_arc : (view : View) (angle gap : Float) (steps i n : ℕ) (s : S) (u : T) → R s u → R (arc_with r view angle gap steps i n s) (arc_with q view angle gap steps i n u)
   unfolding arc_with
@@ -81,15 +80,15 @@ module _ {S T : Type 0} (r : Recorder S) (q : Recorder T) (R : S → T → Type 
   sim_arc view angle gap steps i (suc n) s u k =
       let p = arc_point view angle gap steps i in sim_arc view angle gap steps (suc i) n (r.push p corner s) (q.push p corner u) (push p corner s u k)
 
-  sim_gap : (h g : Cast) (v : Env) → ((a b : End) → Turns v H (turn_of v a b)) → (step from to : Float) (s : S) (u : T) → R s u → R (gap_with r h g v step from to s) (gap_with q h g v step from to u)
-  sim_gap Miss Miss v hv step from to s u k = sim_arc v.view from (to ⊖ from) (steps_of (to ⊖ from) step) 1 (steps_of (to ⊖ from) step - 1) s u k
-  sim_gap Miss (Hit x f) v hv step from to s u k = k
-  sim_gap (Hit t e) Miss v hv step from to s u k = k
-  sim_gap (Hit t e) (Hit x f) v hv step from to s u k =
-      let y = refine_with r v 33 (end_of from e) (end_of to f) s in
-      let z = refine_with q v 33 (end_of from e) (end_of to f) u in
+  sim_gap : (h g : (Option RayHit)) (v : Env) → ((a b : End) → Turns v H (turn_of v a b)) → (step from to : Float) (s : S) (u : T) → R s u → R (gap_with r h g v step from to s) (gap_with q h g v step from to u)
+  sim_gap None None v hv step from to s u k = sim_arc v.view from (to ⊖ from) (steps_of (to ⊖ from) step) 1 (steps_of (to ⊖ from) step - 1) s u k
+  sim_gap None (Some h) v hv step from to s u k = k
+  sim_gap (Some h) None v hv step from to s u k = k
+  sim_gap (Some h) (Some g) v hv step from to s u k =
+      let y = refine_with r v 33 (end_of from h.edge) (end_of to g.edge) s in
+      let z = refine_with q v 33 (end_of from h.edge) (end_of to g.edge) u in
       let d = lt (three ⊗ angle_eps) (to ⊖ from) in
-      sim_cond (eqb e f) s (cond d y s) u (cond d z u) k (sim_cond d y s z u (sim_refine v hv 33 (end_of from e) (end_of to f) s u k) k)
+      sim_cond (eqb h.edge g.edge) s (cond d y s) u (cond d z u) k (sim_cond d y s z u (sim_refine v hv 33 (end_of from h.edge) (end_of to g.edge) s u k) k)
 
   sim_between : (c : Course) → ((a b : End) → Turns c.env H (turn_of c.env a b)) → (a b : Sample) (s : S) (u : T) → R s u → R (between_with r c a b s) (between_with q c a b u)
   unfolding between_with
@@ -99,9 +98,9 @@ module _ {S T : Type 0} (r : Recorder S) (q : Recorder T) (R : S → T → Type 
       (gap_with q a.hit b.hit c.env c.step a.angle b.angle u) (see l s u k)
       (sim_gap a.hit b.hit c.env hv c.step a.angle b.angle s u k)
 
-  sim_visit : (c : Course) → ((a b : End) → Turns c.env H (turn_of c.env a b)) → (a : Sample) (n : Next) (s : S) (u : T) → R s u → R (visit_with r c a n s) (visit_with q c a n u)
-  sim_visit c hv a (To b) s u k = sim_between c hv a b s u k
-  sim_visit c hv a Last s u k = k
+  sim_visit : (c : Course) → ((a b : End) → Turns c.env H (turn_of c.env a b)) → (a : Sample) (n : Option Sample) (s : S) (u : T) → R s u → R (visit_with r c a n s) (visit_with q c a n u)
+  sim_visit c hv a (Some b) s u k = sim_between c hv a b s u k
+  sim_visit c hv a None s u k = k
 
   sim_walk : (c : Course) → ((a b : End) → Turns c.env H (turn_of c.env a b)) → (first : Sample) (l : List Sample) → ((a : Sample) → In a l → HitsAt c.env E a.angle a.hit) → (s : S) (u : T) → R s u → R (walk_with r c first l s) (walk_with q c first l u)
   unfolding walk_with
@@ -132,7 +131,7 @@ module _ {S T : Type 0} (r : Recorder S) (q : Recorder T) (R : S → T → Type 
       sim_halve r q R (λ _ _. Unit {0}) (λ _. Unit {0}) push owned cast hidden see (refine_with r v n) (refine_with q v n)
       (sim_refine r q R (λ _ _. Unit {0}) (λ _. Unit {0}) push owned cast hidden see v (λ a b. turns_any v (turn_of v a b)) n) v a b t (turns_any v t) s u k
 
-  pub any_visit : (c : Course) (a : Sample) (n : Next) (s : S) (u : T) → R s u → R (visit_with r c a n s) (visit_with q c a n u)
+  pub any_visit : (c : Course) (a : Sample) (n : Option Sample) (s : S) (u : T) → R s u → R (visit_with r c a n s) (visit_with q c a n u)
   any_visit c = sim_visit r q R (λ _ _. Unit {0}) (λ _. Unit {0}) push owned cast hidden see c (λ a b. turns_any c.env (turn_of c.env a b))
 
   pub any_walk : (c : Course) (first : Sample) (l : List Sample) (s : S) (u : T) → R s u → R (walk_with r c first l s) (walk_with q c first l u)

@@ -1,16 +1,12 @@
 -- DEMAND 3, THE VISIBLE POLYGONS: each entry of `owners` is an edge that a cast of the run credits, every edge that a sample's cast credits is an entry, the count of
 -- owners is the number of entries and that of the casts of refining the number of its rays; and the marks that a walk leaves, where it is not over, are those of the
 -- entries' owners. Assumes nothing.
-use Rattle.std.proofs.Common.{◌≡◌, ℕ, ◌+◌, ◌*◌, Bool, true, false, cond, ◌&&◌, eqb, ◌⊎◌, List, [], ◌∷◌, map, length, sym, refl, ap, ◌∙◌, subst, inl, inr, ⊎_elim, arith}
+use Rattle.std.proofs.Common.{◌≡◌, ℕ, ◌+◌, ◌*◌, Bool, true, false, cond, ◌&&◌, eqb, ◌⊎◌, List, [], ◌∷◌, map, length, sym, refl, ap, ◌∙◌, subst, inl, inr, ⊎_elim, arith, None, Option, Some}
 use lib.Ieee.{Float, lt}
 use Rattle.lists.specs.Members.{In, All}
 use Rattle.lists.proofs.Members.{all_map, in_all}
 use Rattle.geom.specs.declared.Vec2.{Vec2}
 use Rattle.geom.specs.Vec.{distance_of}
-use Rattle.geom.specs.declared.Meeting.{Meeting}
-use Rattle.geom.specs.declared.Meeting.TheVariants.{At, Nowhere}
-use Rattle.site.specs.declared.Cast.{Cast}
-use Rattle.site.specs.declared.Cast.TheVariants.{Hit, Miss}
 use Rattle.site.specs.Tables.{owner_at, edge_of}
 use Rattle.sorts.specs.Visible.{Marks}
 use Rattle.sorts.proofs.Marks.{marks_more}
@@ -22,36 +18,38 @@ use Rattle.refining.specs.declared.End.{End}
 use Rattle.refining.specs.declared.Turn.{Turn}
 use Rattle.refining.specs.declared.Turn.TheVariants.{Stop, Open, Hidden}
 use Rattle.refining.specs.Refine.{Env, point_of, crossing_of, hides, look_by, look_of, turn_by, meet_of, turn_of}
-use Rattle.sweep.specs.declared.Next.{Next}
+use Rattle.std.specs.Prelude.{Option}
 use Rattle.sweep.specs.Sweep.{next_of, Course, sweep_of, begin_of}
 use Rattle.sweep.specs.Recorder.{owns_with, emit_with, visit_with, walk_with, sweep_with, Free, free_at, free, free_begin, as_rust}
 use Rattle.sweep.proofs.Sim.{Turns, HitsAt, sim_sweep, any_visit, any_walk, any_sweep}
 use Rattle.sweep.proofs.Pushed.{push_grows, all_grows}
 use Rattle.sweep.proofs.Exact.{beside}
+use Rattle.site.specs.Hits.{hit_at}
+use Rattle.site.specs.declared.RayHit.{RayHit}
 
 -- ---- the credits of an edge that hides a crossing are those of what the ray at the crossing's angle hits
 abbrev Hides : Env → Float → List ℕ → Type 0
-Hides v angle l = (t : Float) × (e : ℕ) × (v.cast angle ≡ Hit t e) × (l ≡ v.credits angle e)
+Hides v angle l = (t : Float) × (e : ℕ) × (v.cast angle ≡ hit_at t e) × (l ≡ v.credits angle e)
 
 module _ (v : Env) where
   turns_cond : (x : Bool) (s t : Turn) → Turns v (Hides v) s → Turns v (Hides v) t → Turns v (Hides v) (cond x s t)
   turns_cond true s t h k = h
   turns_cond false s t h k = k
 
-  look_turns : (h : Cast) (a b : End) (p : Vec2) (angle : Float) → v.cast angle ≡ h → Turns v (Hides v) (look_by h v.view a b p angle)
-  look_turns (Hit t e) a b p angle k =
-      let x = hides (distance_of p v.view.o) t in
-      let there = Hidden (point_of v.view angle (Hit t e)) angle e in
-      turns_cond (eqb e a.edge) (Open p) (cond (eqb e b.edge) (Open p) (cond x there (Open p))) tt
-      (turns_cond (eqb e b.edge) (Open p) (cond x there (Open p)) tt (turns_cond x there (Open p) (t, e, k, refl) tt))
-  look_turns Miss a b p angle k = tt
+  look_turns : (h : (Option RayHit)) (a b : End) (p : Vec2) (angle : Float) → v.cast angle ≡ h → Turns v (Hides v) (look_by h v.view a b p angle)
+  look_turns (Some h) a b p angle k =
+      let x = hides (distance_of p v.view.o) h.t in
+      let there = Hidden (point_of v.view angle (hit_at h.t h.edge)) angle h.edge in
+      turns_cond (eqb h.edge a.edge) (Open p) (cond (eqb h.edge b.edge) (Open p) (cond x there (Open p))) tt
+      (turns_cond (eqb h.edge b.edge) (Open p) (cond x there (Open p)) tt (turns_cond x there (Open p) (h.t, h.edge, k, refl) tt))
+  look_turns None a b p angle k = tt
 
-  turn_by_lem : (m : Meeting) (a b : End) → Turns v (Hides v) (turn_by m v a b)
+  turn_by_lem : (m : (Option Vec2)) (a b : End) → Turns v (Hides v) (turn_by m v a b)
   unfolding look_of
-  turn_by_lem (At p) a b =
+  turn_by_lem (Some p) a b =
       let g = crossing_of v.view a.angle p in
       turns_cond (lt a.angle g && lt g b.angle) (look_of v.cast v.view a b p g) Stop (look_turns (v.cast g) a b p g refl) tt
-  turn_by_lem Nowhere a b = tt
+  turn_by_lem None a b = tt
 
   turn_returned : (a b : End) → Turns v (Hides v) (turn_of v a b)
   unfolding turn_of
@@ -77,14 +75,14 @@ module _ (v : Env) (a b : End) where
   looks_cond p angle true s t h k = h
   looks_cond p angle false s t h k = k
 
-  look_by_lem : (h : Cast) (p : Vec2) (angle : Float) → Looks p angle (look_by h v.view a b p angle)
-  look_by_lem (Hit t e) p angle =
-      let x = hides (distance_of p v.view.o) t in
-      let there = Hidden (point_of v.view angle (Hit t e)) angle e in
-      looks_cond p angle (eqb e a.edge) (Open p) (cond (eqb e b.edge) (Open p) (cond x there (Open p))) (inl refl)
-      (looks_cond p angle (eqb e b.edge) (Open p) (cond x there (Open p)) (inl refl)
-      (looks_cond p angle x there (Open p) (inr (point_of v.view angle (Hit t e), e, refl)) (inl refl)))
-  look_by_lem Miss p angle = inl refl
+  look_by_lem : (h : (Option RayHit)) (p : Vec2) (angle : Float) → Looks p angle (look_by h v.view a b p angle)
+  look_by_lem (Some h) p angle =
+      let x = hides (distance_of p v.view.o) h.t in
+      let there = Hidden (point_of v.view angle (hit_at h.t h.edge)) angle h.edge in
+      looks_cond p angle (eqb h.edge a.edge) (Open p) (cond (eqb h.edge b.edge) (Open p) (cond x there (Open p))) (inl refl)
+      (looks_cond p angle (eqb h.edge b.edge) (Open p) (cond x there (Open p)) (inl refl)
+      (looks_cond p angle x there (Open p) (inr (point_of v.view angle (hit_at h.t h.edge), h.edge, refl)) (inl refl)))
+  look_by_lem None p angle = inl refl
 
   look_at : (p : Vec2) → CastAt v a b (look_of v.cast v.view a b p (crossing_of v.view a.angle p))
   unfolding look_of
@@ -92,11 +90,11 @@ module _ (v : Env) (a b : End) where
       let g = crossing_of v.view a.angle p in
       ⊎_elim (λ k. subst (CastAt v a b) (sym k) (sym k)) (λ k. subst (CastAt v a b) (sym k.2) (p, refl, sym k.2)) (look_by_lem (v.cast g) p g)
 
-  at_by : (m : Meeting) → CastAt v a b (turn_by m v a b)
-  at_by (At p) =
+  at_by : (m : (Option Vec2)) → CastAt v a b (turn_by m v a b)
+  at_by (Some p) =
       let g = crossing_of v.view a.angle p in
       at_cond (lt a.angle g && lt g b.angle) (look_of v.cast v.view a b p g) Stop (look_at p) tt
-  at_by Nowhere = tt
+  at_by None = tt
 
   pub turn_cast : CastAt v a b (turn_of v a b)
   unfolding turn_of
@@ -106,8 +104,8 @@ module _ (v : Env) (a b : End) where
 -- one that a cast credits: that of a ray at one of these angles, or that of a sample
 abbrev pub EnteredBy : Course → List Sample → List Float → ℕ → Type 0
 EnteredBy c l angles e =
-    ((angle : Float) × In angle angles × (t : Float) × (f : ℕ) × (c.env.cast angle ≡ Hit t f) × In e (c.env.credits angle f))
-    ⊎ ((a : Sample) × In a l × (t : Float) × (f : ℕ) × (a.hit ≡ Hit t f) × In e (c.env.credits a.angle f))
+    ((angle : Float) × In angle angles × (t : Float) × (f : ℕ) × (c.env.cast angle ≡ hit_at t f) × In e (c.env.credits angle f))
+    ⊎ ((a : Sample) × In a l × (t : Float) × (f : ℕ) × (a.hit ≡ hit_at t f) × In e (c.env.credits a.angle f))
 
 -- of a run: the angles are those at which its refining cast
 abbrev pub Entered : Course → List Sample → List ℕ → ℕ → Type 0
@@ -142,11 +140,11 @@ pub record Held (owners : List ℕ) (f : Free) : Type 0 where
 module _ (c : Course) (l : List Sample) (marks : List ℕ) where
   -- ---- each entry is an edge that a cast credits
   abbrev Sampled : List ℕ → Type 0
-  Sampled m = (a : Sample) × In a l × (t : Float) × (f : ℕ) × (a.hit ≡ Hit t f) × (m ≡ c.env.credits a.angle f)
+  Sampled m = (a : Sample) × In a l × (t : Float) × (f : ℕ) × (a.hit ≡ hit_at t f) × (m ≡ c.env.credits a.angle f)
 
-  sample_hits : (a : Sample) → In a l → (h : Cast) → a.hit ≡ h → HitsAt c.env Sampled a.angle h
-  sample_hits a i (Hit t e) x = (a, i, t, e, x, refl)
-  sample_hits a i Miss x = tt
+  sample_hits : (a : Sample) → In a l → (h : (Option RayHit)) → a.hit ≡ h → HitsAt c.env Sampled a.angle h
+  sample_hits a i (Some h) x = (a, i, h.t, h.edge, x, refl)
+  sample_hits a i None x = tt
 
   -- one ray more takes none away
   still : (angle : Float) (angles : List Float) (e : ℕ) → EnteredBy c l angles e → EnteredBy c l (angle ∷ angles) e
@@ -176,16 +174,16 @@ module _ (c : Course) (l : List Sample) (marks : List ℕ) where
 
   -- ---- every edge that a sample's cast credits is an entry
   module _ (t : Float) (f e : ℕ) where
-    still_visit : (b : Sample) (n : Next) (x : Free) → In e x.entries → In e (visit_with (free c.env) c b n x).entries
+    still_visit : (b : Sample) (n : Option Sample) (x : Free) → In e x.entries → In e (visit_with (free c.env) c b n x).entries
     still_visit b n x k = any_visit (free c.env) (free c.env) (λ (y z : Free). In e y.entries) (λ p tag y z h. h) (λ w y z h. inr h) (λ g y z h. h) (λ cs y z h. h) c b n x x k
 
     still_walk : (first : Sample) (m : List Sample) (x : Free) → In e x.entries → In e (walk_with (free c.env) c first m x).entries
     still_walk first m x k = any_walk (free c.env) (free c.env) (λ (y z : Free). In e y.entries) (λ p tag y z h. h) (λ w y z h. inr h) (λ g y z h. h) (λ cs y z h. h) c first m x x k
 
-    visited : (a : Sample) (h : Cast) → h ≡ Hit t f → In e (c.env.credits a.angle f) → (x : Free) → In e (emit_with (free c.env) h c.env a.angle x).entries
+    visited : (a : Sample) (h : (Option RayHit)) → h ≡ hit_at t f → In e (c.env.credits a.angle f) → (x : Free) → In e (emit_with (free c.env) h c.env a.angle x).entries
     visited a h q j x = rw q (owns_in c.env e (c.env.credits a.angle f) x j)
 
-    walk_owns : (first : Sample) (m : List Sample) (x : Free) (a : Sample) → In a m → a.hit ≡ Hit t f → In e (c.env.credits a.angle f) → In e (walk_with (free c.env) c first m x).entries
+    walk_owns : (first : Sample) (m : List Sample) (x : Free) (a : Sample) → In a m → a.hit ≡ hit_at t f → In e (c.env.credits a.angle f) → In e (walk_with (free c.env) c first m x).entries
     unfolding walk_with
     walk_owns first [] x a i q j = absurd i
     walk_owns first (b ∷ m) x a i q j =
@@ -197,12 +195,12 @@ module _ (c : Course) (l : List Sample) (marks : List ℕ) where
         (λ z. walk_owns first m (visit_with (free c.env) c b n g) a z q j)
         i
 
-    sweep_owns : (m : List Sample) (x : Free) (a : Sample) → In a m → a.hit ≡ Hit t f → In e (c.env.credits a.angle f) → In e (sweep_with (free c.env) c m x).entries
+    sweep_owns : (m : List Sample) (x : Free) (a : Sample) → In a m → a.hit ≡ hit_at t f → In e (c.env.credits a.angle f) → In e (sweep_with (free c.env) c m x).entries
     unfolding sweep_with
     sweep_owns [] x a i q j = absurd i
     sweep_owns (b ∷ m) x a i q j = walk_owns b (b ∷ m) x a i q j
 
-  pub credits_entered : (a : Sample) → In a l → (t : Float) (f : ℕ) → a.hit ≡ Hit t f → (e : ℕ) → In e (c.env.credits a.angle f) → In e (as_rust c l marks).entries
+  pub credits_entered : (a : Sample) → In a l → (t : Float) (f : ℕ) → a.hit ≡ hit_at t f → (e : ℕ) → In e (c.env.credits a.angle f) → In e (as_rust c l marks).entries
   credits_entered a i t f q e j = sweep_owns t f e l (free_begin c.env.view marks) a i q j
 
   -- ---- the marks are those of the entries' owners

@@ -16,8 +16,7 @@ use Rattle.index.specs.declared.AngularIndex.{AngularIndex}
 use Rattle.outline.specs.declared.Trace.{Trace}
 use Rattle.outline.specs.Outline.{Room}
 use Rattle.refining.specs.Refine.{Run, run_at, Ready, Done}
-use Rattle.sweep.specs.declared.Next.{Next}
-use Rattle.sweep.specs.declared.Next.TheVariants.{To, Last}
+use Rattle.std.specs.Prelude.{Option, Some, None}
 use Rattle.sweep.specs.Sweep.{sample_in, Spared, turned, next_of, next_in, Course, course_in, visit_of, walk_of, sweep_of, Walks, Swept}
 
 module _ (at : ℕ → Sample) (n : ℕ) where
@@ -30,7 +29,7 @@ module _ (at : ℕ → Sample) (n : ℕ) where
   past : (i : ℕ) → n ≤ i → drop i (listed at n) ≡ []
   past i h = let k : length (listed at n) ≤ i = omega (arith, length_listed at n) in drop_of_length-le (listed at n) k
 
-  end_by : (full : Bool) → next_of full (at 0) [] ≡ cond full (To (turned (at 0))) Last
+  end_by : (full : Bool) → next_of full (at 0) [] ≡ cond full (Some (turned (at 0))) None
   end_by true = refl
   end_by false = refl
 
@@ -51,7 +50,6 @@ sweep_by c first (a ∷ l) s h = ap (λ (q : Sample). walk_of c q (a ∷ l) s) (
 
 -- what holds at the loop's head
 pub record Walking (c : Course) (at : ℕ → Sample) (k : Rooms) (n : ℕ) (words₀ : List ℕ) (pts₀ : List Float) (marks₀ : List ℕ) (s : Trace) (words : List ℕ) (pts : List Float) (marks : List ℕ) (t : Trace) (i : ℕ) : Type 0 where
-  pub within : i ≤ n
   pub only : Only (seen_w k) (words_for k) words₀ words
   pub long : length pts ≡ length pts₀
   pub held : length marks ≡ length marks₀
@@ -74,7 +72,6 @@ module _ (k : Rooms) (x : AngularIndex) (floats : List Float) (view : View) (ste
   pub walk_none : Walks k (length words₀) (length pts₀) s → Head words₀ pts₀ marks₀ s 0
   walk_none h =
       record {
-        within = omega arith;
         only = only_refl (seen_w k) (words_for k) words₀;
         long = refl;
         held = refl;
@@ -109,7 +106,6 @@ module _ (k : Rooms) (x : AngularIndex) (floats : List Float) (view : View) (ste
         let r : walk_of c (at 0) (at i ∷ drop (i + 1) (listed at n)) (run_at pts marks t) ≡ walk_of c (at 0) (listed at n) (run_at pts₀ marks₀ s)
         = ap (λ (l : List Sample). walk_of c (at 0) l (run_at pts marks t)) (sym (from_here at n i h)) ∙ so.run in
         record {
-          within = omega arith;
           only = only_trans so.only o.1;
           long = lp ∙ so.long;
           held = lm ∙ so.held;
@@ -117,7 +113,7 @@ module _ (k : Rooms) (x : AngularIndex) (floats : List Float) (view : View) (ste
           owners = o.0.owners;
           casts = omega (arith, o.0.casts, so.casts);
           run =
-              ap (walk_of c (at 0) (drop (i + 1) (listed at n))) (same ∙ ap (λ (q : Next). visit_of c (at i) q (run_at pts marks t)) (sym (follows at n view.full i)))
+              ap (walk_of c (at 0) (drop (i + 1) (listed at n))) (same ∙ ap (λ (q : Option Sample). visit_of c (at i) q (run_at pts marks t)) (sym (follows at n view.full i)))
               ∙ r;
         }
 
@@ -129,5 +125,5 @@ module _ (k : Rooms) (x : AngularIndex) (floats : List Float) (view : View) (ste
         ∙ sweep_by (course_at words₀) (samples_at words₀ 0) (listed (samples_at words₀) n) (run_at pts₀ marks₀ s)
         (λ z. get_d_listed (samples_at words₀) n 0 (samples_at words₀ 0) (omega (arith, length_listed (samples_at words₀) n)))
 
-    pub walk_swept : n ≤ i → Swept k (length pts₀) n t
-    walk_swept h = record { points = so.points; owners = so.owners; casts = omega (arith, so.casts, so.within) }
+    pub walk_swept : i ≤ n → Swept k (length pts₀) n t
+    walk_swept h = record { points = so.points; owners = so.owners; casts = omega (arith, so.casts) }

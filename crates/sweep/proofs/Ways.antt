@@ -1,13 +1,11 @@
 -- Each way through the functions of one sample and of two, over plain values, and their counts; and the turns of an arc. Assumes nothing.
-use Rattle.std.proofs.Common.{◌≡◌, ℕ, suc, ◌+◌, ◌-◌, ◌*◌, ◌<◌, ◌≤◌, Bool, true, false, List, [], ◌∷◌, ◌++◌, length, get_or, sym, refl, ap, ◌∙◌, subst, add-one, arith, le-ltb, lt-ltb, eq-eqb, ne_eqb, eqb-true}
+use Rattle.std.proofs.Common.{◌≡◌, ℕ, suc, ◌+◌, ◌-◌, ◌*◌, ◌<◌, ◌≤◌, Bool, true, false, List, [], ◌∷◌, ◌++◌, length, get_or, sym, refl, ap, ◌∙◌, subst, add-one, arith, le-ltb, lt-ltb, eq-eqb, ne_eqb, eqb-true, None, Option, Some}
 use lib.Ieee.{Float, nan, lt}
 use Rattle.num.specs.Ops.{◌⊕◌, ◌⊖◌, ◌⊗◌, ◌⊘◌}
 use Rattle.lists.specs.Parts.{part}
 use Rattle.geom.specs.declared.Vec2.{Vec2}
 use Rattle.geom.specs.Vec.{from_angle_of}
 use Rattle.grid.specs.Range.{count_f}
-use Rattle.site.specs.declared.Cast.{Cast}
-use Rattle.site.specs.declared.Cast.TheVariants.{Hit, Miss}
 use Rattle.room.specs.declared.Rooms.{Rooms}
 use Rattle.room.specs.declared.Sample.{Sample}
 use Rattle.room.specs.Layout.{distances_f, samples_w, order_w, seen_w}
@@ -24,10 +22,11 @@ use Rattle.refining.specs.Refine.{along_of, point_of, credits_for, further_in, c
 use Rattle.refining.proofs.Ways.{along_is}
 use Rattle.seen.specs.Seen.{scene, see_of}
 use Rattle.seen.proofs.Pushes.{pushed_none, pushed_more}
-use Rattle.sweep.specs.declared.Next.{Next}
-use Rattle.sweep.specs.declared.Next.TheVariants.{To, Last}
+use Rattle.std.specs.Prelude.{Option, Some, None}
 use Rattle.room.specs.Constants.{angle_eps}
 use Rattle.sweep.specs.Sweep.{sample_in, dir_in, tie_in, itself, Spared, is_pair, turned, next_in, emit_of, Emitted, steps_of, arc_point, arc_of, gap_of, Course, between_of, visit_of, with_post, begin_of, sweep_of, Swept}
+use Rattle.site.specs.Hits.{hit_at}
+use Rattle.site.specs.declared.RayHit.{RayHit}
 
 -- ---- the samples
 pub sample_is : (k : Rooms) (floats : List Float) (words : List ℕ) (i : ℕ) {a j m : ℕ} {s : Sample} → a ≡ order_w k → j ≡ i → m ≡ get_or words (a + j) 0 → s ≡ sample_at k floats words m
@@ -44,7 +43,7 @@ unfolding tie_in
 tie_is k words i {a} {j} ha hj hm hb = hb ∙ ap (tie_at k words) (hm ∙ ap (λ (q : ℕ). get_or words (q + j) 0) ha ∙ ap (λ (q : ℕ). get_or words (order_w k + q) 0) hj)
 
 -- a sample for which a tie is noted hits
-tie_hit : (k : Rooms) (floats : List Float) (words : List ℕ) (i : ℕ) → tie_in k words i ≡ true → (t : Float) × (e : ℕ) × ((sample_in k floats words i).hit ≡ Hit t e)
+tie_hit : (k : Rooms) (floats : List Float) (words : List ℕ) (i : ℕ) → tie_in k words i ≡ true → (t : Float) × (e : ℕ) × ((sample_in k floats words i).hit ≡ hit_at t e)
 unfolding tie_in sample_in tie_at sample_at
 tie_hit k floats words i h =
     let j = get_or words (order_w k + i) 0 in
@@ -52,15 +51,15 @@ tie_hit k floats words i h =
     (get_or floats (distances_f k + j) nan, get_or words (samples_w k + 4 * j + 3) 0, ap (λ (q : ℕ). cast_from q (get_or floats (distances_f k + j) nan) (get_or words (samples_w k + 4 * j + 3) 0)) two)
 
 module _ (full : Bool) (at : ℕ → Sample) (n i : ℕ) {s : Sample} where
-  pub next_more : i + 1 < n → s ≡ at (i + 1) → To s ≡ next_in full at n i
+  pub next_more : i + 1 < n → s ≡ at (i + 1) → Some s ≡ next_in full at n i
   unfolding next_in
   next_more h e = rw (lt-ltb (i + 1) n h, e)
 
-  pub next_turn : n ≤ i + 1 → full ≡ true → s ≡ at 0 → To (turned s) ≡ next_in full at n i
+  pub next_turn : n ≤ i + 1 → full ≡ true → s ≡ at 0 → Some (turned s) ≡ next_in full at n i
   unfolding next_in
   next_turn h f e = rw (le-ltb (i + 1) n h, f, e)
 
-pub next_last : (full : Bool) (at : ℕ → Sample) (n i : ℕ) → n ≤ i + 1 → full ≡ false → Last ≡ next_in full at n i
+pub next_last : (full : Bool) (at : ℕ → Sample) (n i : ℕ) → n ≤ i + 1 → full ≡ false → None ≡ next_in full at n i
 unfolding next_in
 next_last full at n i h f = rw (le-ltb (i + 1) n h, f)
 
@@ -70,21 +69,21 @@ pub emit_point : (view : View) (a : Sample) {d p : Vec2} → d ≡ from_angle_of
 emit_point view a hd hp = hp ∙ ap (λ (q : Vec2). along_of view q a.hit) hd ∙ along_is view a.angle a.hit
 
 module _ (view : View) (room : ℕ) (owners : List ℕ) (credits : Float → ℕ → List ℕ) (a : Sample) (pts : List Float) (marks : List ℕ) (s : Trace) {p : Vec2} (hp : p ≡ point_of view a.angle a.hit) where
-  pub emit_hit : {t : Float} {e : ℕ} → a.hit ≡ Hit t e → {m2 : List ℕ} {s2 : Trace} → owned m2 s2 ≡ own_all room owners (credits a.angle e) marks s
+  pub emit_hit : {t : Float} {e : ℕ} → a.hit ≡ hit_at t e → {m2 : List ℕ} {s2 : Trace} → owned m2 s2 ≡ own_all room owners (credits a.angle e) marks s
       → {p3 : List Float} {s3 : Trace} → out p3 s3 ≡ push_of view.o p e pts s2 → run_at p3 m2 s3 ≡ emit_of view room owners credits a (run_at pts marks s)
   unfolding emit_of
   emit_hit {t} {e} x {m2} {s2} h2 {p3} {s3} h3 =
-      let q : p ≡ point_of view a.angle (Hit t e) = hp ∙ ap (point_of view a.angle) x in
+      let q : p ≡ point_of view a.angle (hit_at t e) = hp ∙ ap (point_of view a.angle) x in
       rw x
       (ap (λ (u : Out). run_at u.pts m2 u.at) (h3 ∙ ap (λ (y : Vec2). push_of view.o y e pts s2) q)
       ∙ ap
-      (λ (w : Own). run_at (push_of view.o (point_of view a.angle (Hit t e)) e pts w.at).pts w.marks (push_of view.o (point_of view a.angle (Hit t e)) e pts w.at).at)
+      (λ (w : Own). run_at (push_of view.o (point_of view a.angle (hit_at t e)) e pts w.at).pts w.marks (push_of view.o (point_of view a.angle (hit_at t e)) e pts w.at).at)
       h2)
 
-  pub emit_miss : a.hit ≡ Miss → {p2 : List Float} {s2 : Trace} → out p2 s2 ≡ push_of view.o p corner pts s → run_at p2 marks s2 ≡ emit_of view room owners credits a (run_at pts marks s)
+  pub emit_miss : a.hit ≡ None → {p2 : List Float} {s2 : Trace} → out p2 s2 ≡ push_of view.o p corner pts s → run_at p2 marks s2 ≡ emit_of view room owners credits a (run_at pts marks s)
   unfolding emit_of
   emit_miss x {p2} {s2} h =
-      let q : p ≡ point_of view a.angle Miss = hp ∙ ap (point_of view a.angle) x in
+      let q : p ≡ point_of view a.angle None = hp ∙ ap (point_of view a.angle) x in
       rw x (ap (λ (u : Out). run_at u.pts marks u.at) (h ∙ ap (λ (y : Vec2). push_of view.o y corner pts s) q))
 
 pub pushed_room : {l room : ℕ} {s r : Trace} → Room room s → Pushed l s r → Room room r
@@ -117,7 +116,7 @@ module _ (k : Rooms) (x : AngularIndex) (floats : List Float) (words owners : Li
 
   -- so its own, behind the further ones, makes them all
   module _ (room : ℕ) (a : Sample) (pts : List Float) (marks : List ℕ) (s : Trace) where
-    itself_behind : {t : Float} {e : ℕ} → a.hit ≡ Hit t e → {m : List ℕ} {u : Trace} → owned m u ≡ own_all room owners (further_in k x floats words owners view a.angle) marks s
+    itself_behind : {t : Float} {e : ℕ} → a.hit ≡ hit_at t e → {m : List ℕ} {u : Trace} → owned m u ≡ own_all room owners (further_in k x floats words owners view a.angle) marks s
         → emit_of view room owners itself a (run_at pts m u) ≡ emit_of view room owners credits a (run_at pts marks s)
     unfolding emit_of
     itself_behind {t} {e} hit {m} {u} h =
@@ -127,16 +126,16 @@ module _ (k : Rooms) (x : AngularIndex) (floats : List Float) (words owners : Li
         ∙ ap (λ (l : List ℕ). own_all room owners l marks s) (sym (joined a.angle e)) in
         rw hit
         (ap
-        (λ (w : Own). run_at (push_of view.o (point_of view a.angle (Hit t e)) e pts w.at).pts w.marks (push_of view.o (point_of view a.angle (Hit t e)) e pts w.at).at)
+        (λ (w : Own). run_at (push_of view.o (point_of view a.angle (hit_at t e)) e pts w.at).pts w.marks (push_of view.o (point_of view a.angle (hit_at t e)) e pts w.at).at)
         both)
 
     itself_alone : further_in k x floats words owners view a.angle ≡ [] → emit_of view room owners itself a (run_at pts marks s) ≡ emit_of view room owners credits a (run_at pts marks s)
     unfolding emit_of
     itself_alone none = by a.hit refl
       where
-        by : (c : Cast) → a.hit ≡ c → emit_of view room owners itself a (run_at pts marks s) ≡ emit_of view room owners credits a (run_at pts marks s)
-        by (Hit t e) h = itself_behind h (ap (λ (l : List ℕ). own_all room owners l marks s) (sym none))
-        by Miss h = rw h refl
+        by : (c : (Option RayHit)) → a.hit ≡ c → emit_of view room owners itself a (run_at pts marks s) ≡ emit_of view room owners credits a (run_at pts marks s)
+        by (Some q) h = itself_behind h (ap (λ (l : List ℕ). own_all room owners l marks s) (sym none))
+        by None h = rw h refl
 
 -- ---- what stands in front of the sample i: where a tie is noted its further credits, otherwise nothing
 pub record Fore (k : Rooms) (x : AngularIndex) (floats : List Float) (words owners : List ℕ) (view : View) (i : ℕ) (pts : List Float) (marks : List ℕ) (s : Trace) (m : List ℕ) (u : Trace) : Type 0 where
@@ -178,7 +177,7 @@ pub emitted_behind : {l room : ℕ} {s u t : Trace} → Raised room s u → Emit
 emitted_behind r q = record { points = q.points; owners = q.owners; up = omega (arith, r.up, q.up); casts = q.casts ∙ r.refinements }
 
 -- ---- an arc
-pub arc_point_is : (view : View) (angle gap : Float) (steps i : ℕ) {x y : Float} {p : Vec2} → x ≡ count_f i → y ≡ count_f steps → p ≡ point_of view (angle ⊕ gap ⊗ x ⊘ y) Miss → p ≡ arc_point view angle gap steps i
+pub arc_point_is : (view : View) (angle gap : Float) (steps i : ℕ) {x y : Float} {p : Vec2} → x ≡ count_f i → y ≡ count_f steps → p ≡ point_of view (angle ⊕ gap ⊗ x ⊘ y) None → p ≡ arc_point view angle gap steps i
 unfolding arc_point
 arc_point_is view angle gap steps i hx hy hp = rw (hp, hx, hy)
 
@@ -214,12 +213,12 @@ module _ (view : View) (angle gap : Float) (steps : ℕ) (pts₀ : List Float) (
 
 -- ---- `fill_gap`
 module _ (v : Env) (step : Float) (a b : Sample) (pts : List Float) (marks : List ℕ) (s : Trace) where
-  module _ {t : Float} {e : ℕ} (x : a.hit ≡ Hit t e) where
-    pub gap_leave : b.hit ≡ Miss → run_at pts marks s ≡ gap_of v step a b (run_at pts marks s)
+  module _ {t : Float} {e : ℕ} (x : a.hit ≡ hit_at t e) where
+    pub gap_leave : b.hit ≡ None → run_at pts marks s ≡ gap_of v step a b (run_at pts marks s)
     unfolding gap_of
     gap_leave y = rw (x, y)
 
-    module _ {u : Float} {f : ℕ} (y : b.hit ≡ Hit u f) where
+    module _ {u : Float} {f : ℕ} (y : b.hit ≡ hit_at u f) where
       pub gap_same : e ≡ f → run_at pts marks s ≡ gap_of v step a b (run_at pts marks s)
       unfolding gap_of
       gap_same h = rw (x, y) (rw (eq-eqb e f h))
@@ -233,12 +232,12 @@ module _ (v : Env) (step : Float) (a b : Sample) (pts : List Float) (marks : Lis
       unfolding gap_of
       gap_refine h k r = rw (x, y) (rw (ne_eqb e f h, k) r)
 
-  module _ (x : a.hit ≡ Miss) where
-    pub gap_enter : {u : Float} {f : ℕ} → b.hit ≡ Hit u f → run_at pts marks s ≡ gap_of v step a b (run_at pts marks s)
+  module _ (x : a.hit ≡ None) where
+    pub gap_enter : {u : Float} {f : ℕ} → b.hit ≡ hit_at u f → run_at pts marks s ≡ gap_of v step a b (run_at pts marks s)
     unfolding gap_of
     gap_enter y = rw (x, y)
 
-    pub gap_arc : b.hit ≡ Miss → {n : ℕ} → n ≡ steps_of (b.angle ⊖ a.angle) step → {p2 : List Float} {s2 : Trace}
+    pub gap_arc : b.hit ≡ None → {n : ℕ} → n ≡ steps_of (b.angle ⊖ a.angle) step → {p2 : List Float} {s2 : Trace}
         → out p2 s2 ≡ arc_of v.view a.angle (b.angle ⊖ a.angle) n 1 (n - 1) (out pts s) → run_at p2 marks s2 ≡ gap_of v step a b (run_at pts marks s)
     unfolding gap_of
     gap_arc y hn h =
@@ -277,22 +276,22 @@ unfolding sample_in dir_in
 dir_front k start floats words n i P h l hw ha hd =
     hd ∙ ap (λ (q : ℕ). dir_in k floats (part 0 q words) i) hw ∙ (h i l).0 ∙ ap (λ (q : Sample). from_angle_of (start ⊕ q.angle)) (sym (sample_front k floats words i hw ha))
 
-pub next_front : (k : Rooms) (floats : List Float) (words : List ℕ) (full : Bool) (n i : ℕ) {w : ℕ} {s : Next} → w ≡ seen_w k → s ≡ next_in full (sample_in k floats (part 0 w words)) n i
+pub next_front : (k : Rooms) (floats : List Float) (words : List ℕ) (full : Bool) (n i : ℕ) {w : ℕ} {s : Option Sample} → w ≡ seen_w k → s ≡ next_in full (sample_in k floats (part 0 w words)) n i
     → s ≡ next_in full (sample_in k floats (part 0 (seen_w k) words)) n i
 next_front k floats words full n i hw h = h ∙ ap (λ (q : ℕ). next_in full (sample_in k floats (part 0 q words)) n i) hw
 
 -- ---- `visit`
-module _ (c : Course) (a' : Sample) (n' : Next) (s : Run) {a : Sample} (ha : a ≡ a') {next : Next} (hn : next ≡ n') (u : Run) {t : Run} (ht : t ≡ emit_of c.env.view c.env.room c.env.owners itself a u)
+module _ (c : Course) (a' : Sample) (n' : Option Sample) (s : Run) {a : Sample} (ha : a ≡ a') {next : Option Sample} (hn : next ≡ n') (u : Run) {t : Run} (ht : t ≡ emit_of c.env.view c.env.room c.env.owners itself a u)
     (fore : emit_of c.env.view c.env.room c.env.owners itself a' u ≡ emit_of c.env.view c.env.room c.env.owners c.env.credits a' s) where
   emitted : t ≡ emit_of c.env.view c.env.room c.env.owners c.env.credits a' s
   emitted = ht ∙ ap (λ (q : Sample). emit_of c.env.view c.env.room c.env.owners itself q u) ha ∙ fore
 
-  pub visit_to : {b : Sample} → next ≡ To b → {r : Run} → r ≡ between_of c a b t → r ≡ visit_of c a' n' s
+  pub visit_to : {b : Sample} → next ≡ Some b → {r : Run} → r ≡ between_of c a b t → r ≡ visit_of c a' n' s
   unfolding visit_of
   visit_to {b} e h =
       rw (sym hn, e) (h ∙ ap (λ (q : Sample). between_of c q b t) ha ∙ ap (between_of c a' b) emitted)
 
-  pub visit_last : next ≡ Last → t ≡ visit_of c a' n' s
+  pub visit_last : next ≡ None → t ≡ visit_of c a' n' s
   unfolding visit_of
   visit_last e = rw (sym hn, e) emitted
 

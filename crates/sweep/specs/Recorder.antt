@@ -3,12 +3,10 @@
 -- `free` keeps them as the Rust does (`visibility.rs`, lines 419 to 510), in lists that grow without end; beside them, the longest list of corners seen. Each
 -- entry of the owners is a credit of the course, in mode 0 the edge answered as in the Rust.
 -- That the first is over exactly where the second passes the entries is `exact`, there: refusal 8 of document 01. Definitions only.
-use Rattle.std.specs.Prelude.{ℕ, zero, suc, ◌+◌, ◌-◌, ◌*◌, max, Bool, cond, ◌||◌, List, [], ◌∷◌, ◌++◌, length, take, ◌==◌, nat_lt, Float}
+use Rattle.std.specs.Prelude.{ℕ, zero, suc, ◌+◌, ◌-◌, ◌*◌, max, Bool, cond, ◌||◌, List, [], ◌∷◌, ◌++◌, length, take, ◌==◌, nat_lt, Float, None, Option, Some}
 use Rattle.std.specs.Float.Ieee.{lt}
 use Rattle.num.specs.Ops.{◌⊖◌, ◌⊗◌, zero_f}
 use Rattle.geom.specs.declared.Vec2.{Vec2}
-use Rattle.site.specs.declared.Cast.{Cast}
-use Rattle.site.specs.declared.Cast.TheVariants.{Hit, Miss}
 use Rattle.site.specs.Tables.{point_at}
 use Rattle.room.specs.declared.Sample.{Sample}
 use Rattle.cone.specs.declared.View.{View}
@@ -20,10 +18,11 @@ use Rattle.refining.specs.declared.Turn.{Turn}
 use Rattle.refining.specs.declared.Turn.TheVariants.{Stop, Open, Hidden}
 use Rattle.refining.specs.Refine.{point_of, Env, crossing_of, end_of, turn_of, Run, run_at, counting, pushing}
 use Rattle.seen.specs.Seen.{scene, seen_of, push_all, passed}
-use Rattle.sweep.specs.declared.Next.{Next}
-use Rattle.sweep.specs.declared.Next.TheVariants.{To, Last}
+use Rattle.std.specs.Prelude.{Option, Some, None}
 use Rattle.room.specs.Constants.{angle_eps}
 use Rattle.sweep.specs.Sweep.{is_pair, next_of, steps_of, arc_point, Course}
+use Rattle.site.specs.Hits.{hit_at}
+use Rattle.site.specs.declared.RayHit.{RayHit}
 
 pub record Recorder (S : Type 0) : Type 0 where
   pub push : Vec2 → ℕ → S → S
@@ -50,21 +49,21 @@ module _ {S : Type 0} (r : Recorder S) where
   refine_with v (suc f) a b s = halve_with (refine_with v f) v a b (turn_of v a b) s
 
   -- ---- a sample, and what lies between two
-  abbrev pub emit_with : Cast → Env → Float → S → S
-  emit_with (Hit t e) v angle s = r.push (point_of v.view angle (Hit t e)) e (owns_with (v.credits angle e) s)
-  emit_with Miss v angle s = r.push (point_of v.view angle Miss) corner s
+  abbrev pub emit_with : (Option RayHit) → Env → Float → S → S
+  emit_with (Some h) v angle s = r.push (point_of v.view angle (hit_at h.t h.edge)) h.edge (owns_with (v.credits angle h.edge) s)
+  emit_with None v angle s = r.push (point_of v.view angle None) corner s
 
   unfoldable pub arc_with : View → Float → Float → ℕ → ℕ → ℕ → S → S
   arc_with view angle gap steps i zero s = s
   arc_with view angle gap steps i (suc n) s = arc_with view angle gap steps (suc i) n (r.push (arc_point view angle gap steps i) corner s)
 
-  abbrev pub gap_with : Cast → Cast → Env → Float → Float → Float → S → S
-  gap_with Miss Miss v step from to s =
+  abbrev pub gap_with : (Option RayHit) → (Option RayHit) → Env → Float → Float → Float → S → S
+  gap_with None None v step from to s =
       let steps = steps_of (to ⊖ from) step in arc_with v.view from (to ⊖ from) steps 1 (steps - 1) s
-  gap_with Miss (Hit u f) v step from to s = s
-  gap_with (Hit t e) Miss v step from to s = s
-  gap_with (Hit t e) (Hit u f) v step from to s =
-      cond (e == f) s (cond (lt (three ⊗ angle_eps) (to ⊖ from)) (refine_with v 33 (end_of from e) (end_of to f) s) s)
+  gap_with None (Some h) v step from to s = s
+  gap_with (Some h) None v step from to s = s
+  gap_with (Some h) (Some q) v step from to s =
+      cond (h.edge == q.edge) s (cond (lt (three ⊗ angle_eps) (to ⊖ from)) (refine_with v 33 (end_of from h.edge) (end_of to q.edge) s) s)
 
   unfoldable pub between_with : Course → Sample → Sample → S → S
   between_with c a b s =
@@ -72,9 +71,9 @@ module _ {S : Type 0} (r : Recorder S) where
       cond (is_pair a b) (r.see (seen_of w (c.corners a.event)) s) (gap_with a.hit b.hit c.env c.step a.angle b.angle s)
 
   -- ---- the walk
-  abbrev pub visit_with : Course → Sample → Next → S → S
-  visit_with c a (To b) s = between_with c a b s
-  visit_with c a Last s = s
+  abbrev pub visit_with : Course → Sample → Option Sample → S → S
+  visit_with c a (Some b) s = between_with c a b s
+  visit_with c a None s = s
 
   unfoldable pub walk_with : Course → Sample → List Sample → S → S
   walk_with c first [] s = s

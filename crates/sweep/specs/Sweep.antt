@@ -1,15 +1,13 @@
 -- The walk over the samples in order of angle (`visibility.rs`, lines 419 to 510): a run over their list, which makes the outline and the marks.
 -- Document 01, "Outlines from a post"; refusal 8: the run is `over` from the moment when a list would pass its entries. One rounding for each operation,
 -- in the Rust's order. Definitions only.
-use Rattle.std.specs.Prelude.{◌≡◌, ℕ, zero, suc, ◌+◌, ◌-◌, ◌*◌, ◌≤◌, Bool, true, false, cond, ◌&&◌, List, [], ◌∷◌, ◌==◌, nat_lt, slice_index, Float}
+use Rattle.std.specs.Prelude.{◌≡◌, ℕ, zero, suc, ◌+◌, ◌-◌, ◌*◌, ◌≤◌, Bool, true, false, cond, ◌&&◌, List, [], ◌∷◌, ◌==◌, nat_lt, slice_index, Float, None, Option, Some}
 use Rattle.std.specs.Float.Ieee.{to_unsigned, lt}
 use Rattle.num.specs.Ops.{◌⊕◌, ◌⊖◌, ◌⊗◌, ◌⊘◌}
 use Rattle.num.specs.Num.{ceil_of}
 use Rattle.geom.specs.declared.Vec2.{Vec2}
 use Rattle.geom.specs.Constants.{tau}
 use Rattle.grid.specs.Range.{count_f}
-use Rattle.site.specs.declared.Cast.{Cast}
-use Rattle.site.specs.declared.Cast.TheVariants.{Hit, Miss}
 use Rattle.room.specs.declared.Rooms.{Rooms}
 use Rattle.room.specs.declared.Sample.{Sample}
 use Rattle.room.specs.Constants.{angle_eps}
@@ -23,8 +21,9 @@ use Rattle.outline.specs.Outline.{corner, none, Out, out, push_of, Room}
 use Rattle.credit.specs.Credit.{own_all}
 use Rattle.refining.specs.Refine.{point_of, further_in, Env, env_in, Run, run_at, end_of, refine_of}
 use Rattle.seen.specs.Seen.{scene, corners_of, see_of}
-use Rattle.sweep.specs.declared.Next.{Next}
-use Rattle.sweep.specs.declared.Next.TheVariants.{To, Last}
+use Rattle.std.specs.Prelude.{Option, Some, None}
+use Rattle.site.specs.Hits.{hit_at}
+use Rattle.site.specs.declared.RayHit.{RayHit}
 
 -- ---- the samples
 -- the sample i in order of angle, read from the work room
@@ -48,23 +47,23 @@ abbrev pub turned : Sample → Sample
 turned s = record { angle = s.angle ⊕ tau; event = s.event; offset = s.offset; hit = s.hit }
 
 -- what follows: the first of the rest; after the last one the first of all, a turn later, in a full circle, and nothing in a sector
-abbrev pub next_of : Bool → Sample → List Sample → Next
-next_of full first (y ∷ l) = To y
-next_of true first [] = To (turned first)
-next_of false first [] = Last
+abbrev pub next_of : Bool → Sample → List Sample → Option Sample
+next_of full first (y ∷ l) = Some y
+next_of true first [] = Some (turned first)
+next_of false first [] = None
 
 -- the same of the sample i of n, each read by a rule
-unfoldable pub next_in : Bool → (ℕ → Sample) → ℕ → ℕ → Next
-next_in full at n i = cond (nat_lt (i + 1) n) (To (at (i + 1))) (cond full (To (turned (at 0))) Last)
+unfoldable pub next_in : Bool → (ℕ → Sample) → ℕ → ℕ → Option Sample
+next_in full at n i = cond (nat_lt (i + 1) n) (Some (at (i + 1))) (cond full (Some (turned (at 0))) None)
 
 -- ---- a sample's own point, and the owners that its hit credits
-abbrev pub emit_by : Cast → View → ℕ → List ℕ → (Float → ℕ → List ℕ) → Float → Run → Run
-emit_by (Hit t e) view room owners credits angle s =
-    let q = own_all room owners (credits angle e) s.marks s.at in
-    let u = push_of view.o (point_of view angle (Hit t e)) e s.pts q.at in
+abbrev pub emit_by : (Option RayHit) → View → ℕ → List ℕ → (Float → ℕ → List ℕ) → Float → Run → Run
+emit_by (Some h) view room owners credits angle s =
+    let q = own_all room owners (credits angle h.edge) s.marks s.at in
+    let u = push_of view.o (point_of view angle (hit_at h.t h.edge)) h.edge s.pts q.at in
     run_at u.pts q.marks u.at
-emit_by Miss view room owners credits angle s =
-    let u = push_of view.o (point_of view angle Miss) corner s.pts s.at in
+emit_by None view room owners credits angle s =
+    let u = push_of view.o (point_of view angle None) corner s.pts s.at in
     run_at u.pts s.marks u.at
 
 unfoldable pub emit_of : View → ℕ → List ℕ → (Float → ℕ → List ℕ) → Sample → Run → Run
@@ -92,7 +91,7 @@ steps_of gap step = to_unsigned 64 (ceil_of (gap ⊘ step))
 
 -- the point i of so many steps
 unfoldable pub arc_point : View → Float → Float → ℕ → ℕ → Vec2
-arc_point view angle gap steps i = point_of view (angle ⊕ gap ⊗ count_f i ⊘ count_f steps) Miss
+arc_point view angle gap steps i = point_of view (angle ⊕ gap ⊗ count_f i ⊘ count_f steps) None
 
 -- n of its points, from the point i on
 unfoldable pub arc_of : View → Float → Float → ℕ → ℕ → ℕ → Out → Out
@@ -105,13 +104,13 @@ arc_run view angle gap steps s = let q = arc_of view angle gap steps 1 (steps - 
 
 -- ---- between two samples
 -- not the sides of one event: two misses are an arc; two hits of different edges, if not too close, are a crossing
-abbrev pub gap_by : Cast → Cast → Env → Float → Float → Float → Run → Run
-gap_by Miss Miss v step from to s = arc_run v.view from (to ⊖ from) (steps_of (to ⊖ from) step) s
-gap_by Miss (Hit u f) v step from to s = s
-gap_by (Hit t e) Miss v step from to s = s
-gap_by (Hit t e) (Hit u f) v step from to s =
-    let r = refine_of v 33 (end_of from e) (end_of to f) s in
-    cond (e == f) s (cond (lt (three ⊗ angle_eps) (to ⊖ from)) r s)
+abbrev pub gap_by : (Option RayHit) → (Option RayHit) → Env → Float → Float → Float → Run → Run
+gap_by None None v step from to s = arc_run v.view from (to ⊖ from) (steps_of (to ⊖ from) step) s
+gap_by None (Some h) v step from to s = s
+gap_by (Some h) None v step from to s = s
+gap_by (Some h) (Some q) v step from to s =
+    let r = refine_of v 33 (end_of from h.edge) (end_of to q.edge) s in
+    cond (h.edge == q.edge) s (cond (lt (three ⊗ angle_eps) (to ⊖ from)) r s)
 
 unfoldable pub gap_of : Env → Float → Sample → Sample → Run → Run
 gap_of v step a b s = gap_by a.hit b.hit v step a.angle b.angle s
@@ -147,11 +146,11 @@ between_of c a b s =
 
 -- ---- the walk
 -- a sample, and what lies between it and the next one
-abbrev pub visit_by : Course → Sample → Next → Run → Run
-visit_by c a (To b) s = between_of c a b s
-visit_by c a Last s = s
+abbrev pub visit_by : Course → Sample → Option Sample → Run → Run
+visit_by c a (Some b) s = between_of c a b s
+visit_by c a None s = s
 
-unfoldable pub visit_of : Course → Sample → Next → Run → Run
+unfoldable pub visit_of : Course → Sample → Option Sample → Run → Run
 visit_of c a next s = visit_by c a next (emit_of c.env.view c.env.room c.env.owners c.env.credits a s)
 
 -- the samples that are left, of which the first of all was `first`

@@ -23,60 +23,50 @@ use index::AngularIndex;
 use outline::{CORNER, Trace};
 use refining::End;
 use room::{ANGLE_EPS, Rooms, Sample};
-use site::Cast;
+use site::{RayHit, SiteTables};
 
 const TAU: f64 = 6.283185307179586;
-
-// The sample that follows: after the last one the first, a turn later, in a full circle, and none in a sector.
-#[derive(Clone, Copy)]
-enum Next {
-    To(Sample),
-    Last,
-}
 
 // The sample i in order of angle.
 fn sample_in(k: Rooms, floats: &[f64], words: &[u32], i: u32) -> Sample
     ensures { result ≡ sample_in k floats.now words.now i }
 {
-    let at = room::order_w(k) + lists::wide(i);
-    room::sample_at(k, floats, words, lists::at32(words, at))
+    let at = room::order_w(k) + i as usize;
+    room::sample_at(k, floats, words, lists::at(words, at))
 }
 
 // The direction of the sample i in order of angle.
 fn dir_in(k: Rooms, floats: &[f64], words: &[u32], i: u32) -> Vec2
     ensures { result ≡ dir_in k floats.now words.now i }
 {
-    let at = room::order_w(k) + lists::wide(i);
-    room::dir_at(k, floats, lists::at32(words, at))
+    let at = room::order_w(k) + i as usize;
+    room::dir_at(k, floats, lists::at(words, at))
 }
 
 // Is a tie noted for the sample i in order of angle?
 fn tie_in(k: Rooms, words: &[u32], i: u32) -> bool
     ensures { result ≡ tie_in k words.now i }
 {
-    let at = room::order_w(k) + lists::wide(i);
-    room::tie_at(k, words, lists::at32(words, at))
+    let at = room::order_w(k) + i as usize;
+    room::tie_at(k, words, lists::at(words, at))
 }
 
-// The sample that follows the sample i of n.
-fn next_of(k: Rooms, floats: &[f64], words: &[u32], view: View, n: u32, i: u32) -> Next
+// The sample that follows the sample i of n: after the last one the first, a turn later, in a full circle, and none in a sector.
+fn next_of(k: Rooms, floats: &[f64], words: &[u32], view: View, n: u32, i: u32) -> Option<Sample>
     requires { i < n }
     ensures { result ≡ next_in view.full (sample_in k floats.now words.now) n i }
 {
     if i + 1 < n {
-        return Next::To(sample_in(k, floats, words, i + 1));
+        return Some(sample_in(k, floats, words, i + 1));
     }
     if view.full {
         let first = sample_in(k, floats, words, 0);
-        let hit = first.hit;
-        return Next::To(Sample {
+        return Some(Sample {
             angle: first.angle + TAU,
-            event: first.event,
-            offset: first.offset,
-            hit,
+            ..first
         });
     }
-    Next::Last
+    None
 }
 
 // Are these the two side rays of one event?
@@ -128,11 +118,11 @@ fn emit(
     let hit = a.hit;
     let p = refining::point_along(view, dir, hit);
     match hit {
-        Cast::Hit(_, e) => {
-            let t = outline::own(room, owners, marks, s, e);
-            outline::push(pts, t, o, p, e)
+        Some(hit) => {
+            let t = outline::own(room, owners, marks, s, hit.edge);
+            outline::push(pts, t, o, p, hit.edge)
         }
-        Cast::Miss => outline::push(pts, s, o, p, CORNER),
+        None => outline::push(pts, s, o, p, CORNER),
     }
 }
 
@@ -142,7 +132,7 @@ fn arc_point(view: View, angle: f64, gap: f64, steps: u64, i: u64) -> Vec2
 {
     let part = std::num::nearest_u64_to_f64(i);
     let whole = std::num::nearest_u64_to_f64(steps);
-    refining::point(view, angle + gap * part / whole, Cast::Miss)
+    refining::point(view, angle + gap * part / whole, None)
 }
 
 // The points inside an arc of the range circle, from one angle on.
@@ -153,10 +143,8 @@ fn arc(pts: &mut [f64], view: View, angle: f64, gap: f64, steps: u64, s: Trace) 
 {
     let o = view.o;
     let mut t = s;
-    let mut i: u64 = 1;
-    while i < steps {
+    for i in 1..steps {
         t = outline::push(pts, t, o, arc_point(view, angle, gap, steps, i), CORNER);
-        i += 1;
     }
     t
 }
@@ -174,9 +162,7 @@ fn fill_gap(
     x: AngularIndex,
     floats: &[f64],
     words: &[u32],
-    points: &[f64],
-    polygons: &[u32],
-    owners: &[u32],
+    tables: &SiteTables,
     pts: &mut [f64],
     marks: &mut [u8],
     view: View,
@@ -186,41 +172,26 @@ fn fill_gap(
     s: Trace,
 ) -> Trace
     requires { Ready (length pts.old) k.owners s }
-    ensures result_after { run_at pts.new marks.new result ≡ gap_of (env_in k x floats.now words.now view points.now polygons.now owners.now) step a b (run_at pts.old marks.old s) }
+    ensures result_after { run_at pts.new marks.new result ≡ gap_of (env_in k x floats.now words.now view tables.now.points.now tables.now.polygons.now tables.now.owners.now) step a b (run_at pts.old marks.old s) }
     ensures done { Done (length pts.old) k.owners s result }
 {
-    let ha = a.hit;
-    let hb = b.hit;
     let gap = b.angle - a.angle;
-    match ha {
-        Cast::Hit(_, e) => {
-            let Cast::Hit(_, f) = hb else {
-                return s;
+    match (a.hit, b.hit) {
+        (Some(first), Some(last)) if first.edge != last.edge && gap > 3.0 * ANGLE_EPS => {
+            let from = End {
+                angle: a.angle,
+                edge: first.edge,
             };
-            if e == f {
-                return s;
-            }
-            if gap > 3.0 * ANGLE_EPS {
-                let from = End {
-                    angle: a.angle,
-                    edge: e,
-                };
-                let to = End {
-                    angle: b.angle,
-                    edge: f,
-                };
-                return refining::refine(
-                    k, x, floats, words, points, polygons, owners, pts, marks, view, from, to, 0, s,
-                );
-            }
-            s
+            let to = End {
+                angle: b.angle,
+                edge: last.edge,
+            };
+            refining::refine(
+                k, x, floats, words, tables, pts, marks, view, from, to, 0, s,
+            )
         }
-        Cast::Miss => {
-            if let Cast::Hit(_, _) = hb {
-                return s;
-            }
-            arc(pts, view, a.angle, gap, steps_of(gap, step), s)
-        }
+        (None, None) => arc(pts, view, a.angle, gap, steps_of(gap, step), s),
+        _ => s,
     }
 }
 
@@ -229,9 +200,7 @@ fn between(
     k: Rooms,
     x: AngularIndex,
     floats: &[f64],
-    points: &[f64],
-    polygons: &[u32],
-    owners: &[u32],
+    tables: &SiteTables,
     words: &mut [u32],
     pts: &mut [f64],
     marks: &mut [u8],
@@ -242,14 +211,14 @@ fn between(
     s: Trace,
 ) -> Trace
     requires { (words_for k ≤ length words.old) × Ready (length pts.old) k.owners s }
-    ensures result_after { run_at pts.new marks.new result ≡ between_of (course_in k x floats.now (part 0 (seen_w k) words.old) view step points.now polygons.now owners.now) a b (run_at pts.old marks.old s) }
+    ensures result_after { run_at pts.new marks.new result ≡ between_of (course_in k x floats.now (part 0 (seen_w k) words.old) view step tables.now.points.now tables.now.polygons.now tables.now.owners.now) a b (run_at pts.old marks.old s) }
     ensures done { Done (length pts.old) k.owners s result × Only (seen_w k) (words_for k) words.old words.new }
 {
     if is_pair(a, b) {
         let before = a.hit;
         let after = b.hit;
         return seen::see_corners(
-            k, floats, points, polygons, owners, words, pts, view, before, after, a.event, s,
+            k, floats, tables, words, pts, view, before, after, a.event, s,
         );
     }
     let w = room::seen_w(k);
@@ -258,9 +227,7 @@ fn between(
         x,
         floats,
         &words[0..w],
-        points,
-        polygons,
-        owners,
+        tables,
         pts,
         marks,
         view,
@@ -277,9 +244,7 @@ fn visit(
     k: Rooms,
     x: AngularIndex,
     floats: &[f64],
-    points: &[f64],
-    polygons: &[u32],
-    owners: &[u32],
+    tables: &SiteTables,
     words: &mut [u32],
     pts: &mut [f64],
     marks: &mut [u8],
@@ -289,24 +254,33 @@ fn visit(
     i: u32,
     s: Trace,
 ) -> Trace
-    requires { (i < n) × (words_for k ≤ length words.old) × Ready (length pts.old) k.owners s × Noted k view.start (Spared k x floats.now (part 0 (seen_w k) words.old) owners.now view) floats.now (part 0 (seen_w k) words.old) n }
-    ensures result_after { run_at pts.new marks.new result ≡ visit_of (course_in k x floats.now (part 0 (seen_w k) words.old) view step points.now polygons.now owners.now) (sample_in k floats.now (part 0 (seen_w k) words.old) i) (next_in view.full (sample_in k floats.now (part 0 (seen_w k) words.old)) n i) (run_at pts.old marks.old s) }
+    requires { (i < n) × (words_for k ≤ length words.old) × Ready (length pts.old) k.owners s × Noted k view.start (Spared k x floats.now (part 0 (seen_w k) words.old) tables.now.owners.now view) floats.now (part 0 (seen_w k) words.old) n }
+    ensures result_after { run_at pts.new marks.new result ≡ visit_of (course_in k x floats.now (part 0 (seen_w k) words.old) view step tables.now.points.now tables.now.polygons.now tables.now.owners.now) (sample_in k floats.now (part 0 (seen_w k) words.old) i) (next_in view.full (sample_in k floats.now (part 0 (seen_w k) words.old)) n i) (run_at pts.old marks.old s) }
     ensures done { Done (length pts.old) k.owners s result × Only (seen_w k) (words_for k) words.old words.new }
 {
     let w = room::seen_w(k);
-    let mut u = s;
-    if tie_in(k, &words[0..w], i) {
-        u = credit_further(k, x, floats, &words[0..w], owners, &mut *marks, view, i, s);
-    }
+    let u = if tie_in(k, &words[0..w], i) {
+        credit_further(
+            k,
+            x,
+            floats,
+            &words[0..w],
+            tables.owners,
+            &mut *marks,
+            view,
+            i,
+            s,
+        )
+    } else {
+        s
+    };
     let a = sample_in(k, floats, &words[0..w], i);
     let dir = dir_in(k, floats, &words[0..w], i);
     let next = next_of(k, floats, &words[0..w], view, n, i);
-    let t = emit(k.owners, owners, pts, marks, view, a, dir, u);
+    let t = emit(k.owners, tables.owners, pts, marks, view, a, dir, u);
     match next {
-        Next::To(b) => between(
-            k, x, floats, points, polygons, owners, words, pts, marks, view, step, a, b, t,
-        ),
-        Next::Last => t,
+        Some(b) => between(k, x, floats, tables, words, pts, marks, view, step, a, b, t),
+        None => t,
     }
 }
 
@@ -315,9 +289,7 @@ fn walk(
     k: Rooms,
     x: AngularIndex,
     floats: &[f64],
-    points: &[f64],
-    polygons: &[u32],
-    owners: &[u32],
+    tables: &SiteTables,
     words: &mut [u32],
     pts: &mut [f64],
     marks: &mut [u8],
@@ -326,16 +298,13 @@ fn walk(
     n: u32,
     s: Trace,
 ) -> Trace
-    requires { Walks k (length words.old) (length pts.old) s × Noted k view.start (Spared k x floats.now (part 0 (seen_w k) words.old) owners.now view) floats.now (part 0 (seen_w k) words.old) n }
-    ensures result_after { run_at pts.new marks.new result ≡ sweep_of (course_in k x floats.now (part 0 (seen_w k) words.old) view step points.now polygons.now owners.now) (listed (sample_in k floats.now (part 0 (seen_w k) words.old)) n) (run_at pts.old marks.old s) }
+    requires { Walks k (length words.old) (length pts.old) s × Noted k view.start (Spared k x floats.now (part 0 (seen_w k) words.old) tables.now.owners.now view) floats.now (part 0 (seen_w k) words.old) n }
+    ensures result_after { run_at pts.new marks.new result ≡ sweep_of (course_in k x floats.now (part 0 (seen_w k) words.old) view step tables.now.points.now tables.now.polygons.now tables.now.owners.now) (listed (sample_in k floats.now (part 0 (seen_w k) words.old)) n) (run_at pts.old marks.old s) }
     ensures swept { Swept k (length pts.old) n result × Only (seen_w k) (words_for k) words.old words.new }
 {
     let mut t = s;
-    let mut i: u32 = 0;
-    while i < n {
-        let r = visit(
-            k, x, floats, points, polygons, owners, words, pts, marks, view, step, n, i, t,
-        );
+    for i in 0..n {
+        let r = visit(k, x, floats, tables, words, pts, marks, view, step, n, i, t);
         // Field by field: copied whole, it would wait for the bytes that stand between its fields.
         t = Trace {
             points: r.points,
@@ -345,7 +314,6 @@ fn walk(
             over: r.over,
             prev: r.prev,
         };
-        i += 1;
     }
     t
 }
@@ -367,9 +335,7 @@ pub fn sweep(
     k: Rooms,
     x: AngularIndex,
     floats: &[f64],
-    points: &[f64],
-    polygons: &[u32],
-    owners: &[u32],
+    tables: &SiteTables,
     words: &mut [u32],
     pts: &mut [f64],
     marks: &mut [u8],
@@ -377,12 +343,10 @@ pub fn sweep(
     step: f64,
     n: u32,
 ) -> Trace
-    requires { (words_for k ≤ length words.old) × Noted k view.start (Spared k x floats.now (part 0 (seen_w k) words.old) owners.now view) floats.now (part 0 (seen_w k) words.old) n }
-    ensures result_after { run_at pts.new marks.new result ≡ sweep_of (course_in k x floats.now (part 0 (seen_w k) words.old) view step points.now polygons.now owners.now) (listed (sample_in k floats.now (part 0 (seen_w k) words.old)) n) (begin_of view pts.old marks.old) }
+    requires { (words_for k ≤ length words.old) × Noted k view.start (Spared k x floats.now (part 0 (seen_w k) words.old) tables.now.owners.now view) floats.now (part 0 (seen_w k) words.old) n }
+    ensures result_after { run_at pts.new marks.new result ≡ sweep_of (course_in k x floats.now (part 0 (seen_w k) words.old) view step tables.now.points.now tables.now.polygons.now tables.now.owners.now) (listed (sample_in k floats.now (part 0 (seen_w k) words.old)) n) (begin_of view pts.old marks.old) }
     ensures swept { Swept k (length pts.old) n result × Only (seen_w k) (words_for k) words.old words.new }
 {
     let s = begin(pts, view);
-    walk(
-        k, x, floats, points, polygons, owners, words, pts, marks, view, step, n, s,
-    )
+    walk(k, x, floats, tables, words, pts, marks, view, step, n, s)
 }

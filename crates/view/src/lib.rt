@@ -5,7 +5,7 @@
 #![tactic(auto)]
 
 ghost use Rattle.std.specs.Prelude.{◌≡◌, ◌*◌, ◌≤◌, length};
-ghost use Rattle.site.specs.Tables.{tables};
+ghost use Rattle.site.specs.Tables.{tables_of};
 ghost use Rattle.site.specs.Soundness.{Sound};
 ghost use Rattle.grid.specs.Entries as entries;
 ghost use Rattle.stages.specs.Drawing.{request};
@@ -16,10 +16,10 @@ ghost use Rattle.view.specs.Outcome.{lent, out, look_of, Looked, Drawable, drawn
 use cone::{View, ViewCone};
 use geom::Aabb;
 use grid::{Grid, Listing};
+use refusal::Refusal;
 use room::Rooms;
-use sight::Whose;
-use site::Site;
-use stages::Visibility;
+use site::{Site, SiteTables};
+use stages::Shown;
 
 // What a post comes to before its stages: nothing is seen, it stands inside a polygon, or the polygons near a box are looked at.
 #[derive(Clone, Copy)]
@@ -39,24 +39,16 @@ fn is_empty(view: View) -> bool
 }
 
 // What the post comes to.
-fn plan_of(
-    g: Grid,
-    points: &[f64],
-    boxes: &[f64],
-    polygons: &[u32],
-    starts: &[u32],
-    items: &[u32],
-    cone: ViewCone,
-) -> Plan
-    ensures { result ≡ plan_of g points.now boxes.now polygons.now starts.now items.now cone }
+fn plan_of(g: Grid, tables: &SiteTables, cone: ViewCone) -> Plan
+    ensures { result ≡ plan_of g tables.now.points.now tables.now.boxes.now tables.now.polygons.now tables.now.starts.now tables.now.items.now cone }
 {
     let o = cone.origin;
     if is_empty(cone::view_of(cone)) {
         return Plan::Empty;
     }
-    match sight::polygon_at(g, points, boxes, polygons, starts, items, o) {
-        Whose::Id(_) => Plan::Inside,
-        Whose::Nobody => Plan::Query(cone.aabb()),
+    match sight::polygon_at(g, tables, o) {
+        Some(_) => Plan::Inside,
+        None => Plan::Query(cone.aabb()),
     }
 }
 
@@ -64,26 +56,29 @@ fn plan_of(
 fn look(
     p: Plan,
     g: Grid,
-    starts: &[u32],
-    items: &[u32],
+    tables: &SiteTables,
     room: usize,
     marks: &mut [u32],
     epoch: &mut u32,
     words: &mut [u32],
-) -> Listing
-    requires { entries.SoundGrid g.cols g.rows starts.now items.now × (room ≤ length words.old) }
-    ensures { Looked (look_of p g starts.now items.now marks.old epoch.old room) result marks.new epoch.new words.new }
+) -> Result<Listing, Refusal>
+    requires { entries.SoundGrid g.cols g.rows tables.now.starts.now tables.now.items.now × (room ≤ length words.old) }
+    ensures { Looked (look_of p g tables.now.starts.now tables.now.items.now marks.old epoch.old room) result marks.new epoch.new words.new }
 {
     match p {
-        Plan::Query(b) => grid::box_query(g, starts, items, b, marks, epoch, &mut words[0..room]),
-        Plan::Empty => Listing::Listed {
+        Plan::Query(b) => grid::box_query(
+            g,
+            tables.starts,
+            tables.items,
+            b,
+            marks,
+            epoch,
+            &mut words[0..room],
+        ),
+        Plan::Empty | Plan::Inside => Ok(Listing {
             written: 0,
             read: 0,
-        },
-        Plan::Inside => Listing::Listed {
-            written: 0,
-            read: 0,
-        },
+        }),
     }
 }
 // ---- the answer
@@ -92,63 +87,59 @@ fn look(
 fn drawn(
     short: bool,
     p: Plan,
-    a: Listing,
+    a: Result<Listing, Refusal>,
     k: Rooms,
     cone: ViewCone,
     tolerance: f64,
-    points: &[f64],
-    boxes: &[f64],
-    polygons: &[u32],
-    owners: &[u32],
+    tables: &SiteTables,
     floats: &mut [f64],
     words: &mut [u32],
     outline: &mut [f64],
     visible: &mut [u32],
     mode: u32,
-) -> Visibility
-    requires { Drawable short k polygons.now a floats.old words.old }
-    ensures { Shows (drawn_of short p (request k points.now polygons.now owners.now cone tolerance mode (length outline.old) (length visible.old))
-        boxes.now a words.old) result outline.new visible.new }
+) -> Result<Shown, Refusal>
+    requires { Drawable short k tables.now.polygons.now a floats.old words.old }
+    ensures { Shows (drawn_of short p (request k tables.now.points.now tables.now.polygons.now tables.now.owners.now cone tolerance mode (length outline.old) (length visible.old))
+        tables.now.boxes.now a words.old) result outline.new visible.new }
 {
     if short {
-        return Visibility::Refused(8);
+        return Err(Refusal::NoListRoom);
     }
     match p {
         Plan::Empty => stages::plain(false, cone.is_full()),
         Plan::Inside => stages::plain(true, cone.is_full()),
         Plan::Query(_) => match a {
-            Listing::Refused(_) => Visibility::Refused(8),
-            Listing::Listed { written, read: _ } => stages::staged(
-                k, cone, tolerance, written, points, boxes, polygons, owners, floats, words,
-                outline, visible, mode,
+            Err(_) => Err(Refusal::NoListRoom),
+            Ok(Listing { written, read: _ }) => stages::staged(
+                k, cone, tolerance, written, tables, floats, words, outline, visible, mode,
             ),
         },
     }
 }
 
 // How many points an answer has.
-fn points_in(a: Visibility) -> usize
+fn points_in(a: Result<Shown, Refusal>) -> usize
     ensures { result ≡ points_in a }
 {
     match a {
-        Visibility::Seen(s) => s.points,
-        Visibility::Refused(_) => 0,
+        Ok(s) => s.points,
+        Err(_) => 0,
     }
 }
 
 // How many ids.
-fn ids_in(a: Visibility) -> usize
+fn ids_in(a: Result<Shown, Refusal>) -> usize
     ensures { result ≡ ids_in a }
 {
     match a {
-        Visibility::Seen(s) => s.visible,
-        Visibility::Refused(_) => 0,
+        Ok(s) => s.visible,
+        Err(_) => 0,
     }
 }
 
 // All work room zero, and each output list zero behind its entries.
 fn clear(
-    a: Visibility,
+    a: Result<Shown, Refusal>,
     floats: &mut [f64],
     words: &mut [u32],
     outline: &mut [f64],
@@ -157,21 +148,16 @@ fn clear(
     requires { 2 * points_in a ≤ length outline.old }
     ensures { Cleared a floats.old words.old outline.old visible.old floats.new words.new outline.new visible.new }
 {
-    lists::clear64(floats);
-    lists::clear32(words);
-    lists::clear_from64(outline, 2 * points_in(a));
-    lists::clear_from32(visible, ids_in(a));
+    lists::clear(floats);
+    lists::clear(words);
+    lists::clear_from(outline, 2 * points_in(a));
+    lists::clear_from(visible, ids_in(a));
 }
 
 // The outline of a loaded cone over tables that are sound, with a mark for each polygon: everything that the call does after its tests.
 pub fn seen_from(
     site: Site,
-    points: &[f64],
-    boxes: &[f64],
-    polygons: &[u32],
-    owners: &[u32],
-    starts: &[u32],
-    items: &[u32],
+    tables: &SiteTables,
     cone: ViewCone,
     tolerance: f64,
     mode: u32,
@@ -182,17 +168,17 @@ pub fn seen_from(
     words: &mut [u32],
     outline: &mut [f64],
     visible: &mut [u32],
-) -> Visibility
-    requires { Sound site (tables points.now boxes.now polygons.now owners.now starts.now items.now) }
+) -> Result<Shown, Refusal>
+    requires { Sound site (tables_of tables.now) }
     ensures { out result (lent marks.new epoch.new floats.new words.new outline.new visible.new)
-        ≡ seen_from_of site (tables points.now boxes.now polygons.now owners.now starts.now items.now) cone tolerance mode k
+        ≡ seen_from_of site (tables_of tables.now) cone tolerance mode k
         (lent marks.old epoch.old floats.old words.old outline.old visible.old) }
 {
     let g = site.grid;
     let short = room::is_short(k, floats.len(), words.len());
-    let room = lists::least(lists::wide(k.ids), words.len());
-    let p = plan_of(g, points, boxes, polygons, starts, items, cone);
-    let ids = look(p, g, starts, items, room, marks, epoch, &mut *words);
+    let room = (k.ids as usize).min(words.len());
+    let p = plan_of(g, tables, cone);
+    let ids = look(p, g, tables, room, marks, epoch, &mut *words);
     let a = drawn(
         short,
         p,
@@ -200,10 +186,7 @@ pub fn seen_from(
         k,
         cone,
         tolerance,
-        points,
-        boxes,
-        polygons,
-        owners,
+        tables,
         &mut *floats,
         &mut *words,
         &mut *outline,

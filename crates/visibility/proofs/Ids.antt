@@ -1,12 +1,12 @@
 -- THE VISIBLE IDS OF AN ANSWER (`visible_named`): an outline call that is not refused was asked of sound tables, and the ids in front of its list are polygons
 -- of the site, of three points or more, none of them twice. `empty_unseen`: so a polygon without points is never listed (document 02, Q-2). Assumes nothing.
+use Rattle.std.proofs.Common.{Err, Result, Ok}
 use mathlib.Core.Path.{◌≡◌, refl, sym, ap, ◌∙◌, subst}
 use mathlib.Core.Bool.{Bool, true, false, cond}
 use mathlib.Core.List.{List, [], ◌∷◌}
 use Prim.Native.Nat.{ℕ, ◌+◌, ◌*◌, ◌≤◌, ◌<◌, min}
 use native.Mathlib.Omega.{arith}
-use borrow.Author.Tests.{eqb-true}
-use lib.Dec.{ltb, eqb}
+use lib.Dec.{ltb}
 use lib.ListN.{length, get_or, take, length-take}
 use lib.Seq.{take-append_seam, get_or-take}
 use lib.Ieee.{Float}
@@ -17,7 +17,6 @@ use Rattle.lists.proofs.Counting.{nodup_counting, nodup_filter}
 use Rattle.lists.proofs.Members.{all_in, in_all, at_all}
 use Rattle.sorts.specs.Visible.{marked_of}
 use Rattle.grid.specs.declared.Listing.{Listing}
-use Rattle.grid.specs.declared.Listing.TheVariants as listing
 use Rattle.site.specs.declared.Site.{Site}
 use Rattle.site.specs.Tables.{Tables, first_of, len_of, owner_at}
 use Rattle.site.specs.Domain.{load_of}
@@ -34,17 +33,18 @@ use Rattle.refining.specs.Refine.{Run}
 use Rattle.view.specs.declared.Plan.{Plan}
 use Rattle.view.specs.declared.Plan.TheVariants.{Empty, Inside, Query}
 use Rattle.stages.specs.declared.Shown.{Shown}
-use Rattle.stages.specs.declared.Visibility.TheVariants.{Seen, Refused}
 use Rattle.cone.specs.Domain.{load_cone_of}
 use Rattle.visibility.specs.Asked.{admit_of}
 use Rattle.view.specs.Post.{plan_of}
 use Rattle.stages.specs.Drawing.{Request, view_in, Drawing, eight, plain, fan_in, spots_for, events_over, circle_by, rays_over, run_of, swept_of, spotted, fanned, staged_of}
 use Rattle.stages.specs.Shows.{ids_in}
-use Rattle.view.specs.Outcome.{Lent, out, look_of, listed_by, planned, drawn_of, request_of, look_in, seen_from_of}
-use Rattle.visibility.specs.Outcome.{outcome}
+use Rattle.view.specs.Outcome.{Lent, look_of, listed_by, planned, drawn_of, request_of, look_in, seen_from_of}
+use Rattle.visibility.specs.Outcome.{outcome_by, outcome}
 use Rattle.view.proofs.Named.{ids_named, ids_cornered}
 use Rattle.visibility.proofs.Admitting.{admitted_sound}
 use Rattle.stages.proofs.Demand.{visible_owns, front_faces}
+use Rattle.refusal.specs.declared.Refusal.{Refusal}
+use Rattle.grid.specs.Query.{counted}
 
 -- the ids are polygons of a sound site, of three points or more, each once
 pub record Distinct (site : Site) (t : Tables) (ids : List ℕ) : Type 0 where
@@ -122,13 +122,14 @@ module _ (site : Site) (t : Tables) (S : Sound site t) (c : ViewCone) (tolerance
         let z : id ≡ f.polygon = sym w.owner ∙ ap (owner_at t.owners) e ∙ S.one_owner f.polygon f.i (below f.polygon p) f.below in
         subst P (sym z) p)
 
-    listed_fair : (a : Listing) (boxes : List Float) (ids : List ℕ) → ((n read j : ℕ) → a ≡ listing.Listed n read → j < n → P (get_or ids j 0))
+    listed_fair : (a : (Result Listing Refusal)) (boxes : List Float) (ids : List ℕ) → ((n read j : ℕ) → a ≡ counted n read → j < n → P (get_or ids j 0))
         → Fair P (listed_by a (request_of k t c tolerance mode l) boxes ids)
     unfolding staged_of
-    listed_fair (listing.Refused n) boxes ids h = fair_eight P
-    listed_fair (listing.Listed n read) boxes ids h =
+    listed_fair (Err r) boxes ids h = fair_eight P
+    listed_fair (Ok a) boxes ids h =
         let q = request_of k t c tolerance mode l in
-        let b : All P (take n ids) = at_all P (take n ids) 0 (λ i g. let j : i < n = omega (arith, length-take n ids) in rw get_or-take (h n read i refl j)) in
+        let n = a.written in
+        let b : All P (take n ids) = at_all P (take n ids) 0 (λ i g. let j : i < n = omega (arith, length-take n ids) in rw get_or-take (h n a.read i refl j)) in
         fanned_fair P q (fan_in q boxes (take n ids)) (run_named boxes (take n ids) b)
 
   -- a polygon of the site, of three points or more
@@ -166,21 +167,20 @@ module _ (site : Site) (t : Tables) (S : Sound site t) (c : ViewCone) (tolerance
 
 -- ---- of the call
 module _ (site : Site) (t : Tables) (c : ViewCone) (tolerance : Float) (mode : ℕ) (k : Rooms) (l : Lent) (s : Shown) where
-  named_by : (n : ℕ) → n ≡ admit_of site t c mode (length l.marks) → (b : Bool) → eqb n 0 ≡ b
-      → (cond b (seen_from_of site t (load_cone_of c) (load_of tolerance) mode k l) (out (Refused n) l)).answer ≡ Seen s
-      → Distinct site t (take s.visible (cond b (seen_from_of site t (load_cone_of c) (load_of tolerance) mode k l) (out (Refused n) l)).left.visible)
+  named_by : (n : Result (Unit {0}) Refusal) → n ≡ admit_of site t c mode (length l.marks) → (outcome_by n site t c tolerance mode k l).answer ≡ Ok s
+      → Distinct site t (take s.visible (outcome_by n site t c tolerance mode k l).left.visible)
   unfolding ids_in
-  named_by n e true z h =
-      let S = sound site t (admitted_sound site t c mode (length l.marks) n e (eqb-true n 0 z)) in
+  named_by (Ok u) e h =
+      let S = sound site t (admitted_sound site t c mode (length l.marks) (sym e)) in
       let o = seen_from_of site t (load_cone_of c) (load_of tolerance) mode k l in
       subst (λ (m : ℕ). Distinct site t (take m o.left.visible)) (ap ids_in h) (seen_distinct site t S (load_cone_of c) (load_of tolerance) mode k l)
-  named_by n e false z h = let y : ◌≡◌ {A = ℕ} 0 1 = cc in absurd (omega arith)
+  named_by (Err r) e h = cc
 
   -- WHAT IS ANSWERED IS OF A SOUND SITE, and its ids are polygons of it, each once
-  pub visible_named : (outcome site t c tolerance mode k l).answer ≡ Seen s → Distinct site t (take s.visible (outcome site t c tolerance mode k l).left.visible)
+  pub visible_named : (outcome site t c tolerance mode k l).answer ≡ Ok s → Distinct site t (take s.visible (outcome site t c tolerance mode k l).left.visible)
   unfolding outcome
-  visible_named h = named_by (admit_of site t c mode (length l.marks)) refl (eqb (admit_of site t c mode (length l.marks)) 0) refl h
+  visible_named h = named_by (admit_of site t c mode (length l.marks)) refl h
 
   -- A POLYGON WITHOUT POINTS IS NEVER LISTED, nor is one of fewer than three
-  pub empty_unseen : (outcome site t c tolerance mode k l).answer ≡ Seen s → (id : ℕ) → In id (take s.visible (outcome site t c tolerance mode k l).left.visible) → 3 ≤ len_of t.polygons id
+  pub empty_unseen : (outcome site t c tolerance mode k l).answer ≡ Ok s → (id : ℕ) → In id (take s.visible (outcome site t c tolerance mode k l).left.visible) → 3 ≤ len_of t.polygons id
   empty_unseen h id i = all_in (λ (x : ℕ). 3 ≤ len_of t.polygons x) (take s.visible (outcome site t c tolerance mode k l).left.visible) id (visible_named h).cornered i

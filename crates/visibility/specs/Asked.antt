@@ -1,6 +1,8 @@
 -- What is asked of an outline call before anything else: the tests 6, 1 and 7, in their order. Document 01, "Refusal numbers"; the cone's domain is
 -- specs/Domain.antt of crate `cone`. Document 02, Q-3: the mode. Definitions only.
-use Rattle.std.specs.Prelude.{Bool, ◌&&◌, cond, ℕ, leb, ltb}
+use Rattle.std.specs.Prelude.{Bool, ◌&&◌, cond, ℕ, leb, ltb, Result, Ok, Err}
+use Rattle.refusal.specs.declared.Refusal.{Refusal}
+use Rattle.refusal.specs.declared.Refusal.TheVariants.{FewStamps}
 use Rattle.site.specs.declared.Site.{Site}
 use Rattle.site.specs.Tables.{Tables}
 use Rattle.scene.specs.Asked.{asked}
@@ -11,6 +13,6 @@ use Rattle.cone.specs.Domain.{cone_in_domain}
 abbrev pub asked_in_domain : ViewCone → ℕ → Bool
 asked_in_domain c mode = cone_in_domain c && leb mode 1
 
--- the number of the refusal, 0 where there is none: `asked` has 6 and 1, and then comes 7
-unfoldable pub admit_of : Site → Tables → ViewCone → ℕ → ℕ → ℕ
-admit_of site t c mode marks = asked (λ n. n) site t (asked_in_domain c mode) (cond (ltb marks site.polygons) 7 0)
+-- the tests alone: `asked` has 6 and 1, and then comes 7
+unfoldable pub admit_of : Site → Tables → ViewCone → ℕ → ℕ → Result (Unit {0}) Refusal
+admit_of site t c mode marks = asked Err site t (asked_in_domain c mode) (cond (ltb marks site.polygons) (Err FewStamps) (Ok tt))

@@ -6,61 +6,46 @@
 // default tolerance).
 #![tactic(auto)]
 
-ghost use Rattle.std.specs.Prelude.{◌≡◌};
-ghost use Rattle.site.specs.Tables.{tables};
+ghost use Rattle.std.specs.Prelude.{◌≡◌, MatchResult};
+ghost use Rattle.site.specs.Tables.{tables_of};
 ghost use Rattle.view.specs.Outcome.{lent, out};
 ghost use Rattle.visibility.specs.Asked.{admit_of};
 ghost use Rattle.visibility.specs.Outcome.{Promise};
 ghost use Rattle.visibility.specs.Beside.{area_of, tenth};
 
 use cone::ViewCone;
+use refusal::Refusal;
 use room::Rooms;
-use site::Site;
-use stages::Visibility;
+use scene::Scene;
+use stages::Shown;
 
 // ---- the tests
 
-// 6 for unsound tables, 1 for a cone outside the domain or a mode that is neither 0 nor 1, 7 for too few marks, and 0 where none of these.
-fn admit(
-    site: Site,
-    points: &[f64],
-    boxes: &[f64],
-    polygons: &[u32],
-    owners: &[u32],
-    starts: &[u32],
-    items: &[u32],
-    cone: ViewCone,
-    mode: u32,
-    marks: usize,
-) -> u32
-    ensures { result ≡ admit_of site (tables points.now boxes.now polygons.now owners.now starts.now items.now) cone mode marks }
+// Refuses unsound tables (6), a cone outside the domain or a mode that is neither 0 nor 1 (1), and too few marks (7), in this order.
+fn admit(scene: Scene, cone: ViewCone, mode: u32, marks: usize) -> Result<(), Refusal>
+    ensures { result ≡ admit_of scene.entry.site (tables_of scene.entry.tables) cone mode marks }
 {
-    if !site::is_sound(site, points, boxes, polygons, owners, starts, items) {
-        return 6;
+    if !site::is_sound(scene.site, scene.tables) {
+        return Err(Refusal::Unsound);
     }
     if !cone.in_domain() {
-        return 1;
+        return Err(Refusal::OutsideDomain);
     }
     if 1 < mode {
-        return 1;
+        return Err(Refusal::OutsideDomain);
     }
-    if marks < lists::wide(site.polygons) {
-        return 7;
+    if marks < scene.site.polygons as usize {
+        return Err(Refusal::FewStamps);
     }
-    0
+    Ok(())
 }
 
 // ---- the call
 
-// Computes the visible region and the visible polygons for `cone`, on a site. The mode is 0 for the Rust's rule, and 1 to credit ties.
+// Computes the visible region and the visible polygons for `cone`, on a site. The mode is 0 for the Rust's rule, and 1 to credit ties: a
+// number and no enum, since any other is refused.
 pub fn compute_visibility(
-    site: Site,
-    points: &[f64],
-    boxes: &[f64],
-    polygons: &[u32],
-    owners: &[u32],
-    starts: &[u32],
-    items: &[u32],
+    scene: Scene,
     cone: ViewCone,
     tolerance: f64,
     mode: u32,
@@ -71,34 +56,15 @@ pub fn compute_visibility(
     words: &mut [u32],
     outline: &mut [f64],
     visible: &mut [u32],
-) -> Visibility
-    ensures { Promise site (tables points.now boxes.now polygons.now owners.now starts.now items.now) cone tolerance mode k
+) -> Result<Shown, Refusal>
+    ensures { Promise scene.entry.site (tables_of scene.entry.tables) cone tolerance mode k
         (lent marks.old epoch.old floats.old words.old outline.old visible.old)
         (out result (lent marks.new epoch.new floats.new words.new outline.new visible.new)) }
 {
-    let n = admit(
-        site,
-        points,
-        boxes,
-        polygons,
-        owners,
-        starts,
-        items,
-        cone,
-        mode,
-        marks.len(),
-    );
-    if n != 0 {
-        return Visibility::Refused(n);
-    }
+    admit(scene, cone, mode, marks.len())?;
     view::seen_from(
-        site,
-        points,
-        boxes,
-        polygons,
-        owners,
-        starts,
-        items,
+        scene.site,
+        &scene.tables,
         cone.loaded(),
         site::load(tolerance),
         mode,

@@ -1,6 +1,7 @@
 -- Demand 3 for the ray: whatever a visitor does, the cells that its walk enters are distinct, are cells of the grid, and are at most columns + rows - 1.
 -- Each step moves one of column and row by a fixed sign, so `left` falls; it is a number of the cell alone, so no cell comes back.
 -- Assumes nothing.
+use Rattle.std.proofs.Common.{None, Option, Some}
 use mathlib.Core.Path.{◌≡◌, refl, ap, sym, ◌∙◌}
 use mathlib.Core.Logic.{⊎_elim}
 use mathlib.Core.Bool.{Bool, true, false, cond}
@@ -21,10 +22,6 @@ use Rattle.walk.specs.declared.Turn.{Turn}
 use Rattle.walk.specs.declared.Turn.TheVariants.{Up, Down, Stay}
 use Rattle.walk.specs.declared.Course.{Course}
 use Rattle.walk.specs.declared.Place.{Place}
-use Rattle.walk.specs.declared.Start.{Start}
-use Rattle.walk.specs.declared.Start.TheVariants.{From, Miss}
-use Rattle.walk.specs.declared.Step.{Step}
-use Rattle.walk.specs.declared.Step.TheVariants.{Next, Stop}
 use Rattle.walk.proofs.StepLaws.{moves}
 use Rattle.walk.proofs.StartLaws.{start_in}
 
@@ -70,7 +67,7 @@ module _ (k : Course) where
   fair_one : (p : Place) → OnGrid k p → Fair p (p ∷ [])
   fair_one p g = record { near = ((g, le_refl (left k p)), tt); once = ((λ i. i), tt); few = omega arith }
 
-  fair_more : (p q : Place) (l : List Place) → OnGrid k p → step_of k p ≡ Next q → Fair q l → Fair p (p ∷ l)
+  fair_more : (p q : Place) (l : List Place) → OnGrid k p → step_of k p ≡ Some q → Fair q l → Fair p (p ∷ l)
   fair_more p q l g e f =
       let m = moves k p q e in
       record {
@@ -80,11 +77,11 @@ module _ (k : Course) where
       }
 
   module _ {S : Type 0} (v : Visitor S) where
-    fair_by : (p : Place) (s : S) (f : Place → Tour S) (b : Bool) (t : Step) → OnGrid k p → step_of k p ≡ t
+    fair_by : (p : Place) (s : S) (f : Place → Tour S) (b : Bool) (t : (Option Place)) → OnGrid k p → step_of k p ≡ t
         → ((q : Place) → OnGrid k q → Fair q (f q).places) → Fair p (cond b (onward p s f t) (ends_at p s)).places
     fair_by p s f false t g e h = fair_one p g
-    fair_by p s f true Stop g e h = fair_one p g
-    fair_by p s f true (Next q) g e h = fair_more p q (f q).places g e (h q ((moves k p q e).stays g))
+    fair_by p s f true None g e h = fair_one p g
+    fair_by p s f true (Some q) g e h = fair_more p q (f q).places g e (h q ((moves k p q e).stays g))
 
     fair_in : (n : ℕ) (p : Place) (s : S) → OnGrid k p → Fair p (tour_in v n k p s).places
     unfolding tour_in
@@ -115,10 +112,10 @@ all_cells : (k : Course) (n m : ℕ) → ((q : Place) → OnGrid k q → cell_nu
 all_cells k n m h [] a = tt
 all_cells k n m h (q ∷ l) a = (h q a.0.0, all_cells k n m h l a.1)
 
-once_by : {S : Type 0} (v : Visitor S) (g : Grid) (o d : Vec2) (len : Float) (s : S) (t : Start) → ray_start g o d len ≡ t
+once_by : {S : Type 0} (v : Visitor S) (g : Grid) (o d : Vec2) (len : Float) (s : S) (t : (Option (Course × Place))) → ray_start g o d len ≡ t
     → Once g (place_cells t (tour_from v t s).places)
-once_by v g o d len s Miss e = record { distinct = tt; few = omega arith; inside = tt }
-once_by v g o d len s (From k p) e =
+once_by v g o d len s None e = record { distinct = tt; few = omega arith; inside = tt }
+once_by v g o d len s (Some (k, p)) e =
     let b = start_in g o d len k p e in
     let f = tour_fair k v p s b.on_grid in
     let m : k.cols * k.rows ≡ g.cols * g.rows = rw (b.same_cols, b.same_rows) in
@@ -132,9 +129,9 @@ pub entered_once : {S : Type 0} (v : Visitor S) (g : Grid) (o d : Vec2) (len : F
 unfolding ray_tour ray_cells
 entered_once v g o d len s = once_by v g o d len s (ray_start g o d len) refl
 
-counted_by : {S : Type 0} (v : Visitor S) (t : Start) (s : S) → length (place_cells t (tour_from v t s).places) ≡ length (tour_from v t s).places
-counted_by v Miss s = refl
-counted_by v (From k p) s = length-map (tour v k p s).places (cell_number k)
+counted_by : {S : Type 0} (v : Visitor S) (t : (Option (Course × Place))) (s : S) → length (place_cells t (tour_from v t s).places) ≡ length (tour_from v t s).places
+counted_by v None s = refl
+counted_by v (Some (k, p)) s = length-map (tour v k p s).places (cell_number k)
 
 -- as many cells as places
 pub counted : {S : Type 0} (v : Visitor S) (g : Grid) (o d : Vec2) (len : Float) (s : S) → length (ray_cells v g o d len s) ≡ length (ray_tour v g o d len s).places

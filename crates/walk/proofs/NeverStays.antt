@@ -1,6 +1,7 @@
 -- A ray whose length is a number never steps and stays in its cell: where a step would go along an axis that stays, the ray ends in that cell. So the one place
 -- where this walk ends and the Rust's would go on (document 01, "Site and grid") is not reached.
 -- Assumes nothing.
+use Rattle.std.proofs.Common.{Some}
 use mathlib.Core.Path.{◌≡◌, refl, sym, ◌∙◌}
 use mathlib.Core.Bool.{Bool, true, false, ◌&&◌, ◌||◌, cond, true≢false}
 use Prim.Native.Nat.{ℕ, ◌*◌}
@@ -20,7 +21,6 @@ use Rattle.walk.specs.declared.Turn.{Turn}
 use Rattle.walk.specs.declared.Turn.TheVariants.{Stay}
 use Rattle.walk.specs.declared.Course.{Course}
 use Rattle.walk.specs.declared.Place.{Place}
-use Rattle.walk.specs.declared.Start.TheVariants.{From}
 use Rattle.walk.proofs.StepLaws.{Calm, moves}
 use Rattle.walk.proofs.StartLaws.{start_in}
 use Rattle.walk.proofs.TourLaws.{tour_all}
@@ -70,7 +70,7 @@ ends_by k p false c e s =
 
 -- at every place of every visitor's walk
 pub never_stays
-    : {S : Type 0} (v : Visitor S) (g : Grid) (o d : Vec2) (len : Float) (s : S) (k : Course) (p : Place) → is_nan len ≡ false → ray_start g o d len ≡ From k p
+    : {S : Type 0} (v : Visitor S) (g : Grid) (o d : Vec2) (len : Float) (s : S) (k : Course) (p : Place) → is_nan len ≡ false → ray_start g o d len ≡ Some (k, p)
     → All (λ q. turn_at k q ≡ Stay → le k.t1 (exit_of k q) ≡ true) (tour v k p s).places
 never_stays v g o d len s k p h e =
     all_map (Calm k) (λ q. turn_at k q ≡ Stay → le k.t1 (exit_of k q) ≡ true) (λ q c. ends_by k q _ c refl) (tour v k p s).places

@@ -1,6 +1,7 @@
 -- Every walk begins in a cell of its grid; an axis that stays has its crossing at infinity; and the t where the ray ends is a number if the ray's length is one.
 -- Assumes nothing.
-use mathlib.Core.Path.{◌≡◌, refl}
+use Rattle.std.proofs.Common.{None, Some, Option}
+use mathlib.Core.Path.{◌≡◌, refl, ap}
 use mathlib.Core.Bool.{Bool, true, false, ◌||◌, cond, false≢true}
 use Prim.Native.Nat.{ℕ, ◌-◌, ◌≤◌, ◌<◌}
 use native.Mathlib.Nat.{le_refl}
@@ -19,9 +20,6 @@ use Rattle.walk.specs.declared.Turn.TheVariants.{Up, Down, Stay}
 use Rattle.walk.specs.declared.Axis.{Axis}
 use Rattle.walk.specs.declared.Course.{Course}
 use Rattle.walk.specs.declared.Place.{Place}
-use Rattle.walk.specs.declared.Span.{Span}
-use Rattle.walk.specs.declared.Span.TheVariants.{Part, Nowhere}
-use Rattle.walk.specs.declared.Start.TheVariants.{From, Miss}
 use Rattle.walk.proofs.StepLaws.{Calm}
 
 pub record Begun (g : Grid) (len : Float) (k : Course) (p : Place) : Type 0 where
@@ -70,12 +68,12 @@ min_number : (x y : Float) → is_nan x ≡ false → is_nan (min_of x y) ≡ fa
 unfolding min_of
 min_number x y h = min_by x y (lt y x) refl h
 
-abbrev Ends : Span → Type 0
-Ends (Part t0 t1) = is_nan t1 ≡ false
-Ends Nowhere = Unit {0}
+abbrev Ends : (Option (Float × Float)) → Type 0
+Ends (Some (t0, t1)) = is_nan t1 ≡ false
+Ends None = Unit {0}
 
 clip_by : (t0 t1 a b : Float) (x y z : Bool) → is_nan t1 ≡ false
-    → Ends (cond x (cond y Nowhere (Part t0 t1)) (cond z (Part (max_of t0 b) (min_of t1 a)) (Part (max_of t0 a) (min_of t1 b))))
+    → Ends (cond x (cond y None (Some (t0, t1))) (cond z (Some ((max_of t0 b), (min_of t1 a))) (Some ((max_of t0 a), (min_of t1 b)))))
 clip_by t0 t1 a b true true z h = tt
 clip_by t0 t1 a b true false z h = h
 clip_by t0 t1 a b false y true h = min_number t1 a h
@@ -88,9 +86,9 @@ clip_ends o d lo hi t0 t1 h =
     let b = (hi ⊖ o) ⊗ (one_f ⊘ d) in
     clip_by t0 t1 a b (lt (abs_of d) still) (lt o lo || lt hi o) (lt b a) h
 
-in_part_lem : (f : Float → Float → Span) → ((t0 t1 : Float) → is_nan t1 ≡ false → Ends (f t0 t1)) → (s : Span) → Ends s → Ends (in_part f s)
-in_part_lem f h (Part t0 t1) e = h t0 t1 e
-in_part_lem f h Nowhere e = tt
+in_part_lem : (f : Float → Float → (Option (Float × Float))) → ((t0 t1 : Float) → is_nan t1 ≡ false → Ends (f t0 t1)) → (s : (Option (Float × Float))) → Ends s → Ends (in_part f s)
+in_part_lem f h (Some (t0, t1)) e = h t0 t1 e
+in_part_lem f h None e = tt
 
 module _ (g : Grid) (o d : Vec2) (len : Float) where
   box_ends : is_nan len ≡ false → Ends (clip_box_of g o d len)
@@ -103,10 +101,14 @@ module _ (g : Grid) (o d : Vec2) (len : Float) where
       (clip_ends o.x d.x g.origin.x right zero_f len h)
 
   -- ---- together
-  begun : (a : Course) (b : Place) (k : Course) (p : Place) → From a b ≡ From k p → Begun g len a b → Begun g len k p
-  begun a b k p e h = let x : a ≡ k = cc in let y : b ≡ p = cc in rw (← x, ← y) h
+  begun : (a : Course) (b : Place) (k : Course) (p : Place) → ◌≡◌ {A = Option (Course × Place)} (Some (a, b)) (Some (k, p)) → Begun g len a b → Begun g len k p
+  begun a b k p e h =
+      let w : ◌≡◌ {A = Course × Place} (a, b) (k, p) = cc in
+      let x : a ≡ k = ap (λ (z : Course × Place). z.0) w in
+      let y : b ≡ p = ap (λ (z : Course × Place). z.1) w in
+      rw (← x, ← y) h
 
-  set_out_in : (t0 t1 : Float) (k : Course) (p : Place) → 0 < g.cols → 0 < g.rows → (is_nan len ≡ false → is_nan t1 ≡ false) → set_out_of g o d t0 t1 ≡ From k p
+  set_out_in : (t0 t1 : Float) (k : Course) (p : Place) → 0 < g.cols → 0 < g.rows → (is_nan len ≡ false → is_nan t1 ≡ false) → set_out_of g o d t0 t1 ≡ Some (k, p)
       → Begun g len k p
   unfolding set_out_of
   set_out_in t0 t1 k p c r h e =
@@ -118,19 +120,19 @@ module _ (g : Grid) (o d : Vec2) (len : Float) where
         calm = λ n. record { x_far = λ s. axis_far _ _ _ _ _ s; y_far = λ s. axis_far _ _ _ _ _ s; ends = h n };
       })
 
-  never : {A : Type 0} (k : Course) (p : Place) → Miss ≡ From k p → A
+  never : {A : Type 0} (k : Course) (p : Place) → ◌≡◌ {A = Option (Course × Place)} None (Some (k, p)) → A
   never k p e = let z : ◌≡◌ {A = ℕ} 0 1 = cc in absurd (omega arith)
 
-  part_in : (s : Span) (k : Course) (p : Place) → 0 < g.cols → 0 < g.rows → (is_nan len ≡ false → Ends s) → on_part (set_out_of g o d) s ≡ From k p → Begun g len k p
-  part_in Nowhere k p c r h e = never k p e
-  part_in (Part t0 t1) k p c r h e = by (lt t1 t0) e
+  part_in : (s : (Option (Float × Float))) (k : Course) (p : Place) → 0 < g.cols → 0 < g.rows → (is_nan len ≡ false → Ends s) → on_part (set_out_of g o d) s ≡ Some (k, p) → Begun g len k p
+  part_in None k p c r h e = never k p e
+  part_in (Some (t0, t1)) k p c r h e = by (lt t1 t0) e
     where
-      by : (b : Bool) → cond b Miss (set_out_of g o d t0 t1) ≡ From k p → Begun g len k p
+      by : (b : Bool) → cond b None (set_out_of g o d t0 t1) ≡ Some (k, p) → Begun g len k p
       by true e = never k p e
       by false e = set_out_in t0 t1 k p c r h e
 
   start_by : (k : Course) (p : Place) (a b : Bool) → eqb g.cols 0 ≡ a → eqb g.rows 0 ≡ b
-      → cond (a || b) Miss (on_part (set_out_of g o d) (clip_box_of g o d len)) ≡ From k p → Begun g len k p
+      → cond (a || b) None (on_part (set_out_of g o d) (clip_box_of g o d len)) ≡ Some (k, p) → Begun g len k p
   start_by k p true b x y e = never k p e
   start_by k p false true x y e = never k p e
   start_by k p false false x y e =
@@ -138,6 +140,6 @@ module _ (g : Grid) (o d : Vec2) (len : Float) where
       let r : g.rows ≡ 0 → ⊥ = eqb-false g.rows 0 y in
       part_in (clip_box_of g o d len) k p (omega arith) (omega arith) box_ends e
 
-  pub start_in : (k : Course) (p : Place) → ray_start g o d len ≡ From k p → Begun g len k p
+  pub start_in : (k : Course) (p : Place) → ray_start g o d len ≡ Some (k, p) → Begun g len k p
   unfolding ray_start
   start_in k p e = start_by k p (eqb g.cols 0) (eqb g.rows 0) refl refl e

@@ -1,17 +1,13 @@
 -- A step of the walk: the body of the loop of the Rust's `traverse_ray` (grid.rs). Document 01, "Site and grid": a step that would stay in its cell ends the walk.
 -- Definitions only.
-use Rattle.std.specs.Prelude.{cond, ℕ, ◌+◌, ◌-◌, ◌*◌, ◌<◌, ltb, Float}
+use Rattle.std.specs.Prelude.{cond, ℕ, ◌+◌, ◌-◌, ◌*◌, ◌<◌, ltb, Float, None, Option, Some}
 use Rattle.std.specs.Float.Ieee.{lt, le}
 use Rattle.num.specs.Ops.{◌⊕◌}
 use Rattle.num.specs.Num.{min_of}
 use Rattle.walk.specs.declared.Turn.{Turn}
 use Rattle.walk.specs.declared.Turn.TheVariants.{Up, Down, Stay}
-use Rattle.walk.specs.declared.Index.{Index}
-use Rattle.walk.specs.declared.Index.TheVariants.{At, Off}
 use Rattle.walk.specs.declared.Course.{Course}
 use Rattle.walk.specs.declared.Place.{Place}
-use Rattle.walk.specs.declared.Step.{Step}
-use Rattle.walk.specs.declared.Step.TheVariants.{Next, Stop}
 
 -- the number of the place's cell: row by row, column by column
 unfoldable pub cell_number : Course → Place → ℕ
@@ -22,24 +18,24 @@ unfoldable pub exit_of : Course → Place → Float
 exit_of k p = min_of (min_of p.next_x p.next_y) k.t1
 
 -- the index one step on, of count indices
-unfoldable pub moved_to : ℕ → ℕ → Turn → Index
-moved_to i count Up = cond (ltb (i + 1) count) (At (i + 1)) Off
-moved_to i count Down = cond (ltb 0 i) (At (i - 1)) Off
-moved_to i count Stay = Off
+unfoldable pub moved_to : ℕ → ℕ → Turn → Option ℕ
+moved_to i count Up = cond (ltb (i + 1) count) (Some (i + 1)) None
+moved_to i count Down = cond (ltb 0 i) (Some (i - 1)) None
+moved_to i count Stay = None
 
 -- the step along x, to the column that `moved_to` gives; and along y
-abbrev pub along_x : Course → Place → Index → Step
-along_x k p (At c) = Next (record { col = c; row = p.row; next_x = p.next_x ⊕ k.x.delta; next_y = p.next_y; enter = exit_of k p })
-along_x k p Off = Stop
+abbrev pub along_x : Course → Place → Option ℕ → Option Place
+along_x k p (Some c) = Some (record { col = c; row = p.row; next_x = p.next_x ⊕ k.x.delta; next_y = p.next_y; enter = exit_of k p })
+along_x k p None = None
 
-abbrev pub along_y : Course → Place → Index → Step
-along_y k p (At r) = Next (record { col = p.col; row = r; next_x = p.next_x; next_y = p.next_y ⊕ k.y.delta; enter = exit_of k p })
-along_y k p Off = Stop
+abbrev pub along_y : Course → Place → Option ℕ → Option Place
+along_y k p (Some r) = Some (record { col = p.col; row = r; next_x = p.next_x; next_y = p.next_y ⊕ k.y.delta; enter = exit_of k p })
+along_y k p None = None
 
 -- the next place: none where the ray ends in this cell, or the step leads off the grid or nowhere
-unfoldable pub step_of : Course → Place → Step
+unfoldable pub step_of : Course → Place → Option Place
 step_of k p =
-    cond (le k.t1 (exit_of k p)) Stop
+    cond (le k.t1 (exit_of k p)) None
     (cond (lt p.next_x p.next_y) (along_x k p (moved_to p.col k.cols k.x.turn))
     (along_y k p (moved_to p.row k.rows k.y.turn)))
 

@@ -1,14 +1,10 @@
 -- The walk as the Rust's `traverse_ray` runs it over its closure `visit` (grid.rs): each place is visited, the visitor says whether to go on, and a step is taken.
 -- Definitions only.
-use Rattle.std.specs.Prelude.{Bool, true, cond, List, [], ◌∷◌, map, ℕ, zero, suc, Float}
+use Rattle.std.specs.Prelude.{Bool, true, cond, List, [], ◌∷◌, map, ℕ, zero, suc, Float, None, Option, Some}
 use Rattle.geom.specs.declared.Vec2.{Vec2}
 use Rattle.grid.specs.declared.Grid.{Grid}
 use Rattle.walk.specs.declared.Course.{Course}
 use Rattle.walk.specs.declared.Place.{Place}
-use Rattle.walk.specs.declared.Step.{Step}
-use Rattle.walk.specs.declared.Step.TheVariants.{Next, Stop}
-use Rattle.walk.specs.declared.Start.{Start}
-use Rattle.walk.specs.declared.Start.TheVariants.{From, Miss}
 use Rattle.walk.specs.Clipping.{ray_start}
 use Rattle.walk.specs.Steps.{cell_number, step_of, left}
 
@@ -31,9 +27,9 @@ module _ {S : Type 0} where
   abbrev pub before : Place → Tour S → Tour S
   before p t = record { places = p ∷ t.places; final = t.final }
 
-  abbrev pub onward : Place → S → (Place → Tour S) → Step → Tour S
-  onward p s f (Next q) = before p (f q)
-  onward p s f Stop = ends_at p s
+  abbrev pub onward : Place → S → (Place → Tour S) → (Option Place) → Tour S
+  onward p s f (Some q) = before p (f q)
+  onward p s f None = ends_at p s
 
   -- at most n steps of it
   unfoldable pub tour_in : Visitor S → ℕ → Course → Place → S → Tour S
@@ -46,14 +42,14 @@ module _ {S : Type 0} where
   unfoldable pub tour : Visitor S → Course → Place → S → Tour S
   tour v k p s = tour_in v (left k p) k p s
 
-  abbrev pub tour_from : Visitor S → Start → S → Tour S
-  tour_from v (From k p) s = tour v k p s
-  tour_from v Miss s = record { places = []; final = s }
+  abbrev pub tour_from : Visitor S → (Option (Course × Place)) → S → Tour S
+  tour_from v (Some (k, p)) s = tour v k p s
+  tour_from v None s = record { places = []; final = s }
 
 -- the numbers of the places' cells
-abbrev pub place_cells : Start → List Place → List ℕ
-place_cells (From k p) l = map (cell_number k) l
-place_cells Miss l = []
+abbrev pub place_cells : (Option (Course × Place)) → List Place → List ℕ
+place_cells (Some (k, p)) l = map (cell_number k) l
+place_cells None l = []
 
 -- what a visitor makes of the ray o + t * d, t from 0 to len, over a grid
 unfoldable pub ray_tour : {S : Type 0} → Visitor S → Grid → Vec2 → Vec2 → Float → S → Tour S

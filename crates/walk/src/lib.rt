@@ -13,13 +13,6 @@ ghost use Rattle.walk.specs.Steps.{moved_to, cell_number, exit_of, step_of};
 use geom::Vec2;
 use grid::Grid;
 
-// The part of the ray inside the slabs tested so far, from one t to another.
-#[derive(Clone, Copy)]
-enum Span {
-    Part(f64, f64),
-    Nowhere,
-}
-
 // The Rust's `step` of 1, -1 or 0.
 #[derive(Clone, Copy)]
 pub enum Turn {
@@ -56,58 +49,33 @@ pub struct Place {
     pub enter: f64,
 }
 
-#[derive(Clone, Copy)]
-pub enum Start {
-    From(Course, Place),
-    Miss,
-}
-
-#[derive(Clone, Copy)]
-pub enum Step {
-    Next(Place),
-    Stop,
-}
-
-// A column or row after a step.
-#[derive(Clone, Copy)]
-enum Index {
-    At(u32),
-    Off,
-}
-
 // One turn of the Rust's slab loop: the part of t0..t1 in which `o + t * d` lies from lo to hi.
-fn clip(o: f64, d: f64, lo: f64, hi: f64, t0: f64, t1: f64) -> Span
+fn clip(o: f64, d: f64, lo: f64, hi: f64, t0: f64, t1: f64) -> Option<(f64, f64)>
     ensures { result ≡ clip_of o d lo hi t0 t1 }
 {
     if num::abs(d) < 1e-300 {
-        if o < lo {
-            return Span::Nowhere;
+        if o < lo || o > hi {
+            return None;
         }
-        if o > hi {
-            return Span::Nowhere;
-        }
-        return Span::Part(t0, t1);
+        return Some((t0, t1));
     }
     let inv = 1.0 / d;
     let a = (lo - o) * inv;
     let b = (hi - o) * inv;
     if a > b {
-        return Span::Part(num::max(t0, b), num::min(t1, a));
+        return Some((num::max(t0, b), num::min(t1, a)));
     }
-    Span::Part(num::max(t0, a), num::min(t1, b))
+    Some((num::max(t0, a), num::min(t1, b)))
 }
 
 // The ray clipped to the grid's box, x and then y, so that origins outside the grid work too.
-fn clip_box(g: Grid, origin: Vec2, dir: Vec2, length: f64) -> Span
+fn clip_box(g: Grid, origin: Vec2, dir: Vec2, length: f64) -> Option<(f64, f64)>
     ensures { result ≡ clip_box_of g origin dir length }
 {
     let right = g.origin.x + g.cols as f64 * g.cell;
     let bottom = g.origin.y + g.rows as f64 * g.cell;
-    let s = clip(origin.x, dir.x, g.origin.x, right, 0.0, length);
-    match s {
-        Span::Part(t0, t1) => clip(origin.y, dir.y, g.origin.y, bottom, t0, t1),
-        Span::Nowhere => Span::Nowhere,
-    }
+    let (t0, t1) = clip(origin.x, dir.x, g.origin.x, right, 0.0, length)?;
+    clip(origin.y, dir.y, g.origin.y, bottom, t0, t1)
 }
 
 // `(at.floor() as isize).clamp(0, last)`, for every float: a cast without a sign is 0 where the signed one is negative.
@@ -146,7 +114,7 @@ fn axis_setup(d: f64, o: f64, gmin: f64, index: u32, cell: f64) -> Axis
 }
 
 // The course and the first place of a ray that lies in the grid's box from t0 to t1. `traverse_ray` tests that there are cells.
-fn set_out(g: Grid, origin: Vec2, dir: Vec2, t0: f64, t1: f64) -> Start
+fn set_out(g: Grid, origin: Vec2, dir: Vec2, t0: f64, t1: f64) -> Option<(Course, Place)>
     requires { Cells g }
     ensures { result ≡ set_out_of g origin dir t0 t1 }
 {
@@ -155,7 +123,7 @@ fn set_out(g: Grid, origin: Vec2, dir: Vec2, t0: f64, t1: f64) -> Start
     let row = index_at((start.y - g.origin.y) * g.inv_cell, g.rows - 1);
     let x = axis_setup(dir.x, origin.x, g.origin.x, col, g.cell);
     let y = axis_setup(dir.y, origin.y, g.origin.y, row, g.cell);
-    Start::From(
+    Some((
         Course {
             cols: g.cols,
             rows: g.rows,
@@ -170,31 +138,21 @@ fn set_out(g: Grid, origin: Vec2, dir: Vec2, t0: f64, t1: f64) -> Start
             next_y: y.next,
             enter: t0,
         },
-    )
+    ))
 }
 
 // Where the walk of the ray `origin + t * dir`, t from 0 to `length`, begins. A grid without cells has no walk: the sites' tests let none through.
-pub fn traverse_ray(g: Grid, origin: Vec2, dir: Vec2, length: f64) -> Start
+pub fn traverse_ray(g: Grid, origin: Vec2, dir: Vec2, length: f64) -> Option<(Course, Place)>
     ensures { result ≡ ray_start g origin dir length }
 {
-    if g.cols == 0 {
-        return Start::Miss;
+    if g.cols == 0 || g.rows == 0 {
+        return None;
     }
-    if g.rows == 0 {
-        return Start::Miss;
+    let (t0, t1) = clip_box(g, origin, dir, length)?;
+    if t0 > t1 {
+        return None;
     }
-    let s = clip_box(g, origin, dir, length);
-    match s {
-        Span::Part(t0, t1) => {
-            if t0 > t1 {
-                return Start::Miss;
-            }
-            return set_out(g, origin, dir, t0, t1);
-        }
-        Span::Nowhere => {
-            return Start::Miss;
-        }
-    }
+    set_out(g, origin, dir, t0, t1)
 }
 
 // The number of the place's cell.
@@ -212,53 +170,39 @@ pub fn exit_of(k: Course, p: Place) -> f64
 }
 
 // An index one step on, in a grid with `count` of them.
-fn moved(i: u32, count: u32, turn: Turn) -> Index
+fn moved(i: u32, count: u32, turn: Turn) -> Option<u32>
     ensures { result ≡ moved_to i count turn }
 {
     match turn {
-        Turn::Up => if i as u64 + 1 < count as u64 {
-            Index::At(i + 1)
-        } else {
-            Index::Off
-        },
-        Turn::Down => if 0 < i { Index::At(i - 1) } else { Index::Off },
-        Turn::Stay => Index::Off,
+        Turn::Up if i as u64 + 1 < count as u64 => Some(i + 1),
+        Turn::Down if 0 < i => Some(i - 1),
+        _ => None,
     }
 }
 
 // The next place, if the ray does not end in this one and its step leads to another cell of the grid.
-pub fn advance(k: Course, p: Place) -> Step
+pub fn advance(k: Course, p: Place) -> Option<Place>
     ensures { result ≡ step_of k p }
 {
     let exit = exit_of(k, p);
     if exit >= k.t1 {
-        return Step::Stop;
+        return None;
     }
     if p.next_x < p.next_y {
-        let ax = k.x;
-        let turn = ax.turn;
-        match moved(p.col, k.cols, turn) {
-            Index::At(c) => Step::Next(Place {
-                col: c,
-                row: p.row,
-                next_x: p.next_x + ax.delta,
-                next_y: p.next_y,
-                enter: exit,
-            }),
-            Index::Off => Step::Stop,
-        }
+        let col = moved(p.col, k.cols, k.x.turn)?;
+        Some(Place {
+            col,
+            next_x: p.next_x + k.x.delta,
+            enter: exit,
+            ..p
+        })
     } else {
-        let ay = k.y;
-        let turn = ay.turn;
-        match moved(p.row, k.rows, turn) {
-            Index::At(r) => Step::Next(Place {
-                col: p.col,
-                row: r,
-                next_x: p.next_x,
-                next_y: p.next_y + ay.delta,
-                enter: exit,
-            }),
-            Index::Off => Step::Stop,
-        }
+        let row = moved(p.row, k.rows, k.y.turn)?;
+        Some(Place {
+            row,
+            next_y: p.next_y + k.y.delta,
+            enter: exit,
+            ..p
+        })
     }
 }

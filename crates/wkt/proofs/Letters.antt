@@ -5,10 +5,7 @@ use borrow.Author.Tests.{lt-leb}
 use Rattle.wkt.specs.Rules.{capital_of}
 use Rattle.wkt.specs.Parse.{starts, spells}
 
--- ---- a capital for a small letter
-pub capital_small : (b : ℕ) → 97 ≤ b → b ≤ 122 → b - 32 ≡ capital_of b
-capital_small b h g = rw (le-leb 97 b h, le-leb b 122 g)
-
+-- ---- a byte that is its own capital
 pub capital_low : (b : ℕ) → b < 97 → b ≡ capital_of b
 capital_low b h = rw (lt-leb 97 b h)
 

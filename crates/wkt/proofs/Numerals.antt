@@ -1,20 +1,14 @@
 -- Laws of digits and numbers at a cursor.
 -- Assumes nothing.
-use Rattle.std.proofs.Common.{◌≡◌, ℕ, zero, suc, ◌+◌, ◌-◌, ◌*◌, ◌^◌, ◌<◌, ◌≤◌, Bool, true, false, eqb, leb, List, [], ◌∷◌, length, get_or, drop, sym, refl, ap, ◌∙◌, subst, true≢false, le_of_eq, add-zero, add-suc, mul-le-mul_right, suc-mul, pow-suc, add-one, arith, length-drop, drop_of_length-le, drop-drop, pow-add, le-leb, leb-false, leb-true}
-use Rattle.lists.proofs.Parts.{drop_here}
+use Rattle.std.proofs.Common.{◌≡◌, ℕ, zero, suc, ◌+◌, ◌-◌, ◌*◌, ◌^◌, ◌<◌, ◌≤◌, Bool, true, false, leb, Some, None, List, [], ◌∷◌, length, drop, sym, refl, ap, ◌∙◌, subst, true≢false, le_of_eq, add-zero, add-suc, mul-le-mul_right, suc-mul, pow-suc, add-one, arith, length-drop, drop_of_length-le, drop-drop, pow-add, le-leb, leb-false, leb-true}
 use borrow.Author.Tests.{lt-leb}
 use Rattle.wkt.specs.Parse.{got, wrong, starts, spells, run, past, value_of}
-use Rattle.wkt.specs.Cursor.{head_digit, NumberOn}
-use Rattle.wkt.specs.declared.Number.{Number}
-use Rattle.wkt.specs.declared.Number.TheVariants as N
+use Rattle.wkt.specs.Cursor.{head_digit}
 use Rattle.wkt.specs.Number.{digits, digits_of, decimal, unsigned, number}
 
 -- ---- a byte at a cursor, by what it counts as
 module _ (g : ℕ → ℕ) (s : List ℕ) (at b : ℕ) where
-  pub spells_in : at < length s → eqb (g (get_or s at 0)) b ≡ spells g b (drop at s)
-  spells_in h = ap (spells g b) (sym (drop_here s at 0 h))
-
-  pub spells_end : length s ≤ at → false ≡ spells g b (drop at s)
+  spells_end : length s ≤ at → false ≡ spells g b (drop at s)
   spells_end h = ap (spells g b) (sym (drop_of_length-le s h))
 
   -- where a byte stands, the cursor is inside the text
@@ -25,44 +19,38 @@ module _ (g : ℕ → ℕ) (s : List ℕ) (at b : ℕ) where
   pub inside : spells g b (drop at s) ≡ true → at < length s
   inside = inside_by (leb (length s) at) refl
 
--- ---- a digit at a cursor
-pub digit_is : (b : ℕ) (t : List ℕ) → 48 ≤ b → b ≤ 57 → b - 48 ≡ head_digit (b ∷ t)
-digit_is b t h g = rw (le-leb 48 b h, le-leb b 57 g)
-
-pub digit_low : (b : ℕ) (t : List ℕ) → b < 48 → 10 ≡ head_digit (b ∷ t)
-digit_low b t h = rw (lt-leb 48 b h)
-
-pub digit_high : (b : ℕ) (t : List ℕ) → 48 ≤ b → 57 < b → 10 ≡ head_digit (b ∷ t)
-digit_high b t h g = rw (le-leb 48 b h, lt-leb b 57 g)
-
 -- ---- the run of digits
-pub record More (t : List ℕ) : Type 0 where
-  pub digits_on : run t ≡ (48 + head_digit t) ∷ run (drop 1 t)
+pub record More (t : List ℕ) (d : ℕ) : Type 0 where
+  pub digits_on : run t ≡ (48 + d) ∷ run (drop 1 t)
   pub past_on : past t ≡ past (drop 1 t)
   pub some : 0 < length t
+  pub small : d < 10
 
-more_by : (b : ℕ) (t : List ℕ) (p q : Bool) → leb 48 b ≡ p → leb b 57 ≡ q → head_digit (b ∷ t) < 10 → More (b ∷ t)
-more_by b t true true e f h =
-    let e' : 48 ≤ b = leb-true _ _ e in
-    let g : 48 + (b - 48) ≡ b = omega arith in
-    record { digits_on = rw (e, f, g); past_on = rw (e, f); some = omega arith }
-more_by b t true false e f h = let z : 10 < 10 = (rw (e, f) at h) in absurd (omega arith)
-more_by b t false q e f h = let z : 10 < 10 = (rw e at h) in absurd (omega arith)
+more_by : (b d : ℕ) (t : List ℕ) (p q : Bool) → leb 48 b ≡ p → leb b 57 ≡ q → Some d ≡ head_digit (b ∷ t) → More (b ∷ t) d
+more_by b d t true true e f h =
+    let z : Some d ≡ Some (b - 48) = (rw (e, f) at h) in
+    let k : d ≡ b - 48 = cc in
+    let low : 48 ≤ b = leb-true _ _ e in
+    let high : b ≤ 57 = leb-true _ _ f in
+    let g : 48 + d ≡ b = omega arith in
+    record { digits_on = rw (e, f, g); past_on = rw (e, f); some = omega arith; small = omega arith }
+more_by b d t true false e f h = let z : Some d ≡ None = (rw (e, f) at h) in cc
+more_by b d t false q e f h = let z : Some d ≡ None = (rw e at h) in cc
 
-pub more : (t : List ℕ) → head_digit t < 10 → More t
-more [] h = absurd (omega arith)
-more (b ∷ t) h = more_by b t (leb 48 b) (leb b 57) refl refl h
+pub more : (t : List ℕ) (d : ℕ) → Some d ≡ head_digit t → More t d
+more [] d h = cc
+more (b ∷ t) d h = more_by b d t (leb 48 b) (leb b 57) refl refl h
 
-pub record None (t : List ℕ) : Type 0 where
+pub record NoDigit (t : List ℕ) : Type 0 where
   pub digits_none : run t ≡ []
   pub past_none : past t ≡ t
 
-none_by : (b : ℕ) (t : List ℕ) (p q : Bool) → leb 48 b ≡ p → leb b 57 ≡ q → 10 ≤ head_digit (b ∷ t) → None (b ∷ t)
-none_by b t true true e f h = let z : 10 ≤ b - 48 = (rw (e, f) at h) in absurd (omega (arith, leb-true b 57 f))
+none_by : (b : ℕ) (t : List ℕ) (p q : Bool) → leb 48 b ≡ p → leb b 57 ≡ q → None ≡ head_digit (b ∷ t) → NoDigit (b ∷ t)
+none_by b t true true e f h = let z : None ≡ Some (b - 48) = (rw (e, f) at h) in cc
 none_by b t true false e f h = record { digits_none = rw (e, f); past_none = rw (e, f) }
 none_by b t false q e f h = record { digits_none = rw e; past_none = rw e }
 
-pub none : (t : List ℕ) → 10 ≤ head_digit t → None t
+pub none : (t : List ℕ) → None ≡ head_digit t → NoDigit t
 none [] h = record { digits_none = refl; past_none = refl }
 none (b ∷ t) h = none_by b t (leb 48 b) (leb b 57) refl refl h
 
@@ -78,14 +66,14 @@ pub record Reading (s : List ℕ) (at i v : ℕ) : Type 0 where
 pub reading_start : (s : List ℕ) (at : ℕ) → Reading s at at 0
 reading_start s at = record { value = refl; rest = refl; count = omega arith; from = omega arith; small = let e : at - at ≡ 0 = omega arith in rw e (omega arith); inside = λ h. absurd (omega arith) }
 
-pub in_text : (s : List ℕ) (i : ℕ) → head_digit (drop i s) < 10 → i < length s
-in_text s i h = omega (arith, (more (drop i s) h).some, length-drop i s)
+pub in_text : (s : List ℕ) (i d : ℕ) → Some d ≡ head_digit (drop i s) → i < length s
+in_text s i d h = omega (arith, (more (drop i s) d h).some, length-drop i s)
 
-pub reading_more : (s : List ℕ) (at i v d : ℕ) → Reading s at i v → d ≡ head_digit (drop i s) → d < 10 → Reading s at (i + 1) (v * 10 + d)
-reading_more s at i v d r e h =
-    let m = more (drop i s) (rw (sym e) h) in
-    let a : run (drop i s) ≡ (48 + head_digit (drop i s)) ∷ run (drop (i + 1) s) = m.digits_on ∙ ap (λ (t : List ℕ). (48 + head_digit (drop i s)) ∷ run t) (drop-drop 1 i s) in
-    let k : (48 + head_digit (drop i s)) - 48 ≡ d = omega arith in
+pub reading_more : (s : List ℕ) (at i v d : ℕ) → Reading s at i v → Some d ≡ head_digit (drop i s) → Reading s at (i + 1) (v * 10 + d)
+reading_more s at i v d r e =
+    let m = more (drop i s) d e in
+    let a : run (drop i s) ≡ (48 + d) ∷ run (drop (i + 1) s) = m.digits_on ∙ ap (λ (t : List ℕ). (48 + d) ∷ run t) (drop-drop 1 i s) in
+    let k : (48 + d) - 48 ≡ d = omega arith in
     let f = r.from in
     let q : i + 1 - at ≡ suc (i - at) = omega arith in
     let sm = r.small in
@@ -94,22 +82,22 @@ reading_more s at i v d r e h =
       rest = r.rest ∙ m.past_on ∙ ap past (drop-drop 1 i s);
       count = let c = r.count in let l = ap length a in omega arith;
       from = omega arith;
-      small = rw q (omega (arith, pow-suc 10 (i - at)));
+      small = rw q (omega (arith, m.small, pow-suc 10 (i - at)));
       inside = λ _. omega (arith, m.some, length-drop i s);
     }
 
 -- more digits are there than the limit
-pub reading_over : (s : List ℕ) (at i v limit : ℕ) → Reading s at i v → head_digit (drop i s) < 10 → i - at ≡ limit → wrong ≡ digits_of limit (drop at s)
+pub reading_over : (s : List ℕ) (at i v d limit : ℕ) → Reading s at i v → Some d ≡ head_digit (drop i s) → i - at ≡ limit → wrong ≡ digits_of limit (drop at s)
 unfolding digits_of
-reading_over s at i v limit r h e =
-    let m = more (drop i s) h in
+reading_over s at i v d limit r h e =
+    let m = more (drop i s) d h in
     let l = ap length m.digits_on in
     let c = r.count in
     let g : limit < length (run (drop at s)) = omega arith in
     let o : 1 ≤ length (run (drop at s)) = omega arith in
     rw (le-leb 1 _ o, lt-leb (length (run (drop at s))) limit g)
 
-pub reading_none : (s : List ℕ) (at i v limit : ℕ) → Reading s at i v → 10 ≤ head_digit (drop i s) → i ≡ at → wrong ≡ digits_of limit (drop at s)
+pub reading_none : (s : List ℕ) (at i v limit : ℕ) → Reading s at i v → None ≡ head_digit (drop i s) → i ≡ at → wrong ≡ digits_of limit (drop at s)
 unfolding digits_of
 reading_none s at i v limit r h e =
     let l = ap length (none (drop i s) h).digits_none in
@@ -117,7 +105,7 @@ reading_none s at i v limit r h e =
     let o : length (run (drop at s)) < 1 = omega arith in
     rw (lt-leb 1 (length (run (drop at s))) o)
 
-pub reading_done : (s : List ℕ) (at i v limit : ℕ) → Reading s at i v → 10 ≤ head_digit (drop i s) → (i ≡ at → ⊥) → i - at ≤ limit → got (digits v (i - at)) (drop i s) ≡ digits_of limit (drop at s)
+pub reading_done : (s : List ℕ) (at i v limit : ℕ) → Reading s at i v → None ≡ head_digit (drop i s) → (i ≡ at → ⊥) → i - at ≤ limit → got (digits v (i - at)) (drop i s) ≡ digits_of limit (drop at s)
 unfolding digits_of
 reading_done s at i v limit r h n e =
     let m = none (drop i s) h in
@@ -175,7 +163,3 @@ number_minus w f s at p = rw (p, drop-drop 1 at s)
 pub number_plain : (w f : ℕ) (s : List ℕ) (at : ℕ) → starts 45 (drop at s) ≡ false → unsigned w f false (drop at s) ≡ number w f (drop at s)
 unfolding number
 number_plain w f s at p = rw p
-
-pub on_more : (s : List ℕ) (at : ℕ) (r : Number) → NumberOn s (at + 1) r → NumberOn s at r
-on_more s at (N.Read x next) h = (omega arith, h.1)
-on_more s at N.Wrong h = tt

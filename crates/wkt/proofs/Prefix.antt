@@ -1,7 +1,6 @@
 -- Lists that are read one entry after the other: what was read before, in front of what is still read. And an answer is not a refusal.
 -- Assumes nothing.
-use Rattle.std.proofs.Common.{◌≡◌, ℕ, ◌+◌, ◌<◌, ◌≤◌, Bool, true, false, ◌&&◌, eqb, List, [], ◌∷◌, ◌++◌, length, get_or, drop, refl, append_assoc, arith, length-drop}
-use mathlib.Core.Bool.{false≢true, and-eq-true_iff}
+use Rattle.std.proofs.Common.{◌≡◌, ℕ, ◌+◌, ◌<◌, Bool, true, false, ◌&&◌, List, [], ◌∷◌, ◌++◌, length, get_or, drop, sym, refl, ap, ◌∙◌, append_assoc, arith, drop-drop}
 use Rattle.lists.proofs.Parts.{drop_here}
 use Rattle.wkt.specs.Parse.{Parse, got, wrong, and_then, join, spells, begins, only_if, word}
 
@@ -27,6 +26,10 @@ module _ {A : Type 0} where
   prefixed_nil (got ps t) = refl
   prefixed_nil wrong = refl
 
+-- the text behind n bytes, by the cursor behind them
+pub behind : (s : List ℕ) (at n next : ℕ) → next ≡ at + n → drop n (drop at s) ≡ drop next s
+behind s at n next e = drop-drop n at s ∙ ap (λ (i : ℕ). drop i s) (sym e)
+
 -- ---- words, by what a byte counts as
 word_then_by : {A B : Type 0} (c : Bool) (t : List ℕ) (k : List ℕ → Parse A) (g : A → List ℕ → Parse B) → only_if c (λ b. and_then (k b) g) t ≡ and_then (only_if c k t) g
 word_then_by true t k g = refl
@@ -36,20 +39,8 @@ module _ (g : ℕ → ℕ) where
   pub begins_step : (v : List ℕ) (t : List ℕ) (i : ℕ) (b : Bool) → i < length v → spells g (get_or v i 0) t ≡ b → begins g (drop i v) t ≡ (b && begins g (drop (i + 1) v) (drop 1 t))
   begins_step v t i b h e = rw (drop_here v i 0 h, e)
 
-  -- a word that begins a text is no longer than it
-  begins_length : (v t : List ℕ) → begins g v t ≡ true → length v ≤ length t
-  begins_length [] t e = omega arith
-  begins_length (x ∷ v) [] e = absurd (false≢true e)
-  begins_length (x ∷ v) (y ∷ t) e = let h = begins_length v t ((and-eq-true_iff (eqb (g y) x) (begins g v t)).0 e).1 in omega arith
-
-  pub begins_room : (v s : List ℕ) (at : ℕ) → begins g v (drop at s) ≡ true → 0 < length v → at + length v ≤ length s
-  begins_room v s at e h = omega (arith, begins_length v (drop at s) e, length-drop at s)
-
   pub word_yes : {A : Type 0} (v t : List ℕ) (k : List ℕ → Parse A) → begins g v t ≡ true → k (drop (length v) t) ≡ word g v t k
   word_yes v t k e = rw e
-
-  pub word_no : {A : Type 0} (v t : List ℕ) (k : List ℕ → Parse A) → begins g v t ≡ false → wrong ≡ word g v t k
-  word_no v t k e = rw e
 
   pub word_then : {A B : Type 0} (v t : List ℕ) (k : List ℕ → Parse A) (h : A → List ℕ → Parse B) → word g v t (λ b. and_then (k b) h) ≡ and_then (word g v t k) h
   word_then v t k h = word_then_by (begins g v t) (drop (length v) t) k h

@@ -11,9 +11,7 @@ use Rattle.wkt.specs.Number.{number}
 use Rattle.wkt.specs.Rules.{Rules}
 use Rattle.wkt.specs.Grammar.{Point, point, pair, after, points, same, last_of, closed, opened, closing, ring}
 use Rattle.wkt.specs.Answer.{coords}
-use Rattle.wkt.specs.Cursor.{PairOn, counted, StoredBy}
-use Rattle.wkt.specs.declared.Pair.{Pair}
-use Rattle.wkt.specs.declared.Pair.TheVariants as P
+use Rattle.wkt.specs.Cursor.{counted, StoredBy}
 use Rattle.wkt.proofs.Numerals.{inside}
 use Rattle.wkt.proofs.Prefix.{prefixed, prefixed_join, prefixed_nil, word_then}
 use Rattle.wkt.proofs.Stored.{point_more}
@@ -36,10 +34,6 @@ module _ (how : Rules) (t : List ℕ) where
     pub pair_done : (y : Float) (b : List ℕ) → spells how.letter 32 a ≡ true → number how.whole how.part (drop 1 a) ≡ got y b → got (point x y) b ≡ pair how t
     unfolding pair
     pair_done y b p q = rw (e, p, q)
-
-pub pair_on_more : (s : List ℕ) (at n : ℕ) (r : Pair) → PairOn s (at + n) r → PairOn s at r
-pair_on_more s at n (P.Read x y next) h = (omega arith, h.1)
-pair_on_more s at n P.Wrong h = tt
 
 -- ---- a ring
 abbrev pub head_or : Point → List Point → Point
@@ -159,11 +153,8 @@ unfolding ring
 ring_none how t e = ap (λ (z : Parse (List Point)). and_then z closing) (none_by how (length t) t e)
 
 -- ---- what an answer says, from what the grammar gives
-pub post_wrong : (r : Parse (List Point)) (l : List Float) (k : ℕ) (q : List Float) → r ≡ wrong → (wrong ≡ counted r) × (Unit {0} × StoredBy r l k q)
-post_wrong r l k q e = (rw e, (tt, subst (λ (z : Parse (List Point)). StoredBy z l k q) (sym e) tt))
+pub post_wrong : (r : Parse (List Point)) (l : List Float) (k : ℕ) (q : List Float) → r ≡ wrong → (wrong ≡ counted r) × StoredBy r l k q
+post_wrong r l k q e = (rw e, subst (λ (z : Parse (List Point)). StoredBy z l k q) (sym e) tt)
 
 pub post_read : (r : Parse (List Point)) (ps : List Point) (n : ℕ) (t : List ℕ) (l : List Float) (k : ℕ) (q : List Float) → r ≡ got ps t → length ps ≡ n → q ≡ sets l (2 * k) (coords ps) → (got n t ≡ counted r) × StoredBy r l k q
 post_read r ps n t l k q e c g = (rw (e, c), subst (λ (z : Parse (List Point)). StoredBy z l k q) (sym e) g)
-
-pub post_same : (r r' : Parse (List Point)) (n : Parse ℕ) (U : Type 0) (l : List Float) (k : ℕ) (q : List Float) → r ≡ r' → (n ≡ counted r) × (U × StoredBy r l k q) → (n ≡ counted r') × (U × StoredBy r' l k q)
-post_same r r' n U l k q e h = (h.0 ∙ ap counted e, (h.1.0, subst (λ (z : Parse (List Point)). StoredBy z l k q) e h.1.1))

@@ -1,6 +1,6 @@
 -- Coordinates and lengths in lent slices: stored one ring after the other, and cut to the room there is.
 -- Assumes nothing.
-use Rattle.std.proofs.Common.{◌≡◌, ℕ, zero, suc, ◌+◌, ◌-◌, ◌*◌, ◌<◌, ◌≤◌, Bool, true, false, cond, leb, List, [], ◌∷◌, ◌++◌, length, get_or, take, drop, set, replicate, sym, refl, ap, ◌∙◌, ⊎_elim, append_assoc, append-nil, arith, length-append, drop_of_length-le, length-take, take_all, leb-true}
+use Rattle.std.proofs.Common.{◌≡◌, ℕ, zero, suc, ◌+◌, ◌-◌, ◌*◌, ◌<◌, ◌≤◌, Bool, true, false, cond, leb, Result, Err, List, [], ◌∷◌, ◌++◌, length, get_or, take, drop, set, replicate, sym, refl, ap, ◌∙◌, ⊎_elim, append_assoc, append-nil, arith, length-append, drop_of_length-le, length-take, take_all, leb-true}
 use mathlib.Core.Bool.{and-eq-true_iff}
 use lib.Seq.{sets, length-sets, take-append_seam}
 use lib.Ieee.{Float}
@@ -13,8 +13,9 @@ use Rattle.wkt.specs.Limits.{max_polygons, max_points}
 use Rattle.wkt.specs.Parse.{Parse, got, wrong}
 use Rattle.wkt.specs.Grammar.{Point, point, Text, scene, post}
 use Rattle.wkt.specs.declared.Input.{Input}
-use Rattle.wkt.specs.Answer.{text_in, Says, coords, all_coords, lengths, total, fitting, input_of, rings_of, held}
-use Rattle.wkt.specs.declared.Input.TheVariants.{Read, Refused}
+use Rattle.wkt.specs.Answer.{text_in, Says, coords, all_coords, lengths, total, fitting, input_at, input_of, rings_of, held}
+use Rattle.refusal.specs.declared.Refusal.{Refusal}
+use Rattle.refusal.specs.declared.Refusal.TheVariants.{TooMany}
 use Rattle.wkt.specs.Cursor.{polygons_in, points_in, StoredText}
 
 -- ---- coordinates
@@ -117,7 +118,7 @@ limited (got (scene h rs) u) = limited_by rs (fitting rs) refl
 limited wrong = record { polygons = omega arith; points = omega arith }
 
 -- ---- the counts of an answer are those of its rings, and so are the cells
-counts_by : (x y m : Float) (rs : List (List Point)) (b : Bool) → (polygons_in (cond b (Read x y m (length rs) (total rs)) (Refused 2)) ≡ length (cond b rs [])) × (points_in (cond b (Read x y m (length rs) (total rs)) (Refused 2)) ≡ total (cond b rs []))
+counts_by : (x y m : Float) (rs : List (List Point)) (b : Bool) → (polygons_in (cond b (input_at x y m (length rs) (total rs)) (Err TooMany)) ≡ length (cond b rs [])) × (points_in (cond b (input_at x y m (length rs) (total rs)) (Err TooMany)) ≡ total (cond b rs []))
 counts_by x y m rs true = (refl, refl)
 counts_by x y m rs false = (refl, refl)
 
@@ -145,7 +146,7 @@ module _ (pts : List Float) (lens : List ℕ) (pts' : List Float) (lens' : List 
   cells wrong p l e f g k s = (held_none zero_f pts' p (length pts) e g, held_none {A = ℕ} 0 lens' l (length lens) f k)
 
 -- ---- lent room for 64 lengths and 512 points holds all of a text that is not refused
-pub all_stored : (t : List ℕ) (p l : ℕ) (r : Input) (pts : List Float) (lens : List ℕ) → 2 * max_points ≤ p → max_polygons ≤ l → Says t p l r pts lens
+pub all_stored : (t : List ℕ) (p l : ℕ) (r : Result Input Refusal) (pts : List Float) (lens : List ℕ) → 2 * max_points ≤ p → max_polygons ≤ l → Says t p l r pts lens
     → (pts ≡ padded zero_f p (all_coords (rings_of (text_in t)))) × (lens ≡ padded 0 l (lengths (rings_of (text_in t))))
 all_stored t p l r pts lens h g s =
     let rs = rings_of (text_in t) in

@@ -1,6 +1,6 @@
 -- Laws of the post's line and of the whole text.
 -- Assumes nothing.
-use Rattle.std.proofs.Common.{◌≡◌, ℕ, ◌<◌, ◌≤◌, Bool, true, false, ◌&&◌, List, [], length, drop, sym, refl, ap, ◌∙◌, subst, le-leb}
+use Rattle.std.proofs.Common.{◌≡◌, ℕ, ◌<◌, ◌≤◌, Bool, true, false, ◌&&◌, Option, Some, None, Result, Err, List, [], length, drop, sym, refl, ap, ◌∙◌, subst, le-leb}
 use borrow.Author.Tests.{lt-leb}
 use lib.Ieee.{Float}
 use Rattle.wkt.specs.Limits.{max_bytes}
@@ -12,8 +12,9 @@ use Rattle.wkt.specs.Grammar.{Point, point, pair, Post, post, measured, measure,
 use Rattle.wkt.specs.Answer.{total, input_of}
 use Rattle.wkt.specs.Cursor.{tally, tallied, lines_seen, StoredAll, StoredText, answer_of}
 use Rattle.wkt.specs.declared.Lines.{Lines}
-use Rattle.wkt.specs.declared.Lines.TheVariants as I
-use Rattle.wkt.specs.declared.Input.TheVariants as U
+use Rattle.wkt.specs.declared.Input.{Input}
+use Rattle.refusal.specs.declared.Refusal.{Refusal}
+use Rattle.refusal.specs.declared.Refusal.TheVariants.{NotAsLaidOut}
 use Rattle.wkt.proofs.Prefix.{not_wrong, not_got, same_got}
 
 module _ (how : Rules) (t : List ℕ) where
@@ -52,7 +53,7 @@ module _ (how : Rules) (t : List ℕ) where
   text_by r h e = ap (λ (z : Bool). only_if z (λ a. and_then (post_line how a) (posted how)) t) (le-leb (length t) max_bytes h) ∙ ap (λ (z : Parse Post). and_then z (posted how)) e
 
 -- ---- the answers
-pub say_nine : (P : Parse Text) (a : List Float) (b : List ℕ) (c : List Float) (d : List ℕ) → P ≡ wrong → (U.Refused 9 ≡ input_of P) × StoredText P a b c d
+pub say_nine : (P : Parse Text) (a : List Float) (b : List ℕ) (c : List Float) (d : List ℕ) → P ≡ wrong → (◌≡◌ {A = Result Input Refusal} (Err NotAsLaidOut) (input_of P)) × StoredText P a b c d
 say_nine P a b c d e = (rw e, subst (λ (z : Parse Text). StoredText z a b c d) (sym e) tt)
 
 -- what the lines' answer says of the whole: `lines` is what was seen of the rings R
@@ -60,20 +61,20 @@ module _ (x y m : Float) where
   abbrev all : Parse (List (List Point)) → Parse Text
   all r = and_then r (λ rs t. got (scene (post x y m) rs) t)
 
-  seen_by : (R : Parse (List (List Point))) (lines : Lines) → lines_seen lines ≡ tallied R → answer_of x y m lines ≡ input_of (all R)
-  seen_by (got rs u) (I.Read n k) e =
-      let s = (same_got (tally n k) (tally (length rs) (total rs)) [] u e).0 in
-      let a : n ≡ length rs = cc in
-      let b : k ≡ total rs = cc in
+  seen_by : (R : Parse (List (List Point))) (lines : Option Lines) → lines_seen lines ≡ tallied R → answer_of x y m lines ≡ input_of (all R)
+  seen_by (got rs u) (Some r) e =
+      let s = (same_got (tally r.polygons r.points) (tally (length rs) (total rs)) [] u e).0 in
+      let a : r.polygons ≡ length rs = cc in
+      let b : r.points ≡ total rs = cc in
       rw (a, b)
-  seen_by (got rs u) I.Wrong e = absurd (not_got (tally (length rs) (total rs)) u e)
-  seen_by wrong (I.Read n k) e = absurd (not_wrong (tally n k) [] e)
-  seen_by wrong I.Wrong e = refl
+  seen_by (got rs u) None e = absurd (not_got (tally (length rs) (total rs)) u e)
+  seen_by wrong (Some r) e = absurd (not_wrong (tally r.polygons r.points) [] e)
+  seen_by wrong None e = refl
 
   stored_by : (R : Parse (List (List Point))) (a : List Float) (b : List ℕ) (c : List Float) (d : List ℕ) → StoredAll R a b c d → StoredText (all R) a b c d
   stored_by (got rs u) a b c d s = s
   stored_by wrong a b c d s = tt
 
-  pub say_all : (P : Parse Text) (R : Parse (List (List Point))) (lines : Lines) (a : List Float) (b : List ℕ) (c : List Float) (d : List ℕ) → P ≡ all R → lines_seen lines ≡ tallied R → StoredAll R a b c d
+  pub say_all : (P : Parse Text) (R : Parse (List (List Point))) (lines : Option Lines) (a : List Float) (b : List ℕ) (c : List Float) (d : List ℕ) → P ≡ all R → lines_seen lines ≡ tallied R → StoredAll R a b c d
       → (answer_of x y m lines ≡ input_of P) × StoredText P a b c d
   say_all P R lines a b c d e s k = (seen_by R lines s ∙ ap input_of (sym e), subst (λ (z : Parse Text). StoredText z a b c d) (sym e) (stored_by R a b c d k))

@@ -1,7 +1,7 @@
 -- What a text is answered with, and what the lent slices hold at the end. Document 01: "Text is checked first (9), then 64 and 512 (answered
 -- as 2)"; "Closing points are not stored or counted". A refusal leaves every lent cell zero, and so is what lies behind the points and lengths.
 -- Definitions only.
-use Rattle.std.specs.Prelude.{◌≡◌, ℕ, ◌+◌, Bool, cond, ◌&&◌, List, [], ◌∷◌, ◌++◌, length, take, nat_le, Float}
+use Rattle.std.specs.Prelude.{◌≡◌, ℕ, ◌+◌, Bool, cond, ◌&&◌, List, [], ◌∷◌, ◌++◌, length, take, nat_le, Float, Result, Ok, Err}
 use Rattle.num.specs.Ops.{zero_f}
 use Rattle.lists.specs.Parts.{padded}
 use Rattle.wkt.specs.Limits.{whole_digits, part_digits, max_polygons, max_points}
@@ -9,7 +9,8 @@ use Rattle.wkt.specs.Parse.{Parse, got, wrong}
 use Rattle.wkt.specs.Rules.{rules}
 use Rattle.wkt.specs.Grammar.{Point, point, Text, scene, post, text_of}
 use Rattle.wkt.specs.declared.Input.{Input}
-use Rattle.wkt.specs.declared.Input.TheVariants.{Read, Refused}
+use Rattle.refusal.specs.declared.Refusal.{Refusal}
+use Rattle.refusal.specs.declared.Refusal.TheVariants.{TooMany, NotAsLaidOut}
 
 -- x, y of each point
 abbrev pub coords : List Point → List Float
@@ -33,10 +34,14 @@ total (ps ∷ rs) = length ps + total rs
 abbrev pub fitting : List (List Point) → Bool
 fitting rs = nat_le (length rs) max_polygons && nat_le (total rs) max_points
 
+-- the answer to a text that is read: the post, its range, and how many polygons and points
+abbrev pub input_at : Float → Float → Float → ℕ → ℕ → Result Input Refusal
+input_at x y m n k = Ok (record { x = x; y = y; range = m; polygons = n; points = k })
+
 -- 9 where the text is not as laid out, then 2 where it has more than fits, else the post and the counts
-abbrev pub input_of : Parse Text → Input
-input_of (got (scene (post x y m) rs) t) = cond (fitting rs) (Read x y m (length rs) (total rs)) (Refused 2)
-input_of wrong = Refused 9
+abbrev pub input_of : Parse Text → Result Input Refusal
+input_of (got (scene (post x y m) rs) t) = cond (fitting rs) (input_at x y m (length rs) (total rs)) (Err TooMany)
+input_of wrong = Err NotAsLaidOut
 
 -- the rings of a text that is not refused
 abbrev pub rings_of : Parse Text → List (List Point)
@@ -51,7 +56,7 @@ held z n xs = padded z n (take n xs)
 abbrev pub text_in : List ℕ → Parse Text
 text_in t = text_of (rules whole_digits part_digits) t
 
-pub record Says (t : List ℕ) (p l : ℕ) (r : Input) (pts : List Float) (lens : List ℕ) : Type 0 where
+pub record Says (t : List ℕ) (p l : ℕ) (r : Result Input Refusal) (pts : List Float) (lens : List ℕ) : Type 0 where
   pub answer : r ≡ input_of (text_in t)
   pub points : pts ≡ held zero_f p (all_coords (rings_of (text_in t)))
   pub lengths_in : lens ≡ held 0 l (lengths (rings_of (text_in t)))

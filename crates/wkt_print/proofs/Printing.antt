@@ -6,11 +6,10 @@ use mathlib.Core.List.{List, [], ◌∷◌, ◌++◌, append_assoc, append-nil}
 use Prim.Native.Nat.{ℕ, suc, ◌+◌, ◌-◌, ◌*◌, ◌/◌, ◌%◌, ◌^◌, ◌≤◌, ◌<◌}
 use native.Mathlib.Nat.{add-zero, pow-suc, lt_of_lt_of_le, le_of_eq}
 use native.Mathlib.Omega.{arith}
-use lib.ListN.{length, set, get_or, drop, length-append, length-drop}
+use lib.ListN.{length, set, get_or, length-append}
 use lib.Seq.{sets, set_comm}
 use lib.Dec.{eqb}
 use lib.Ieee.{Float, nan, lt, of_bits, binary64}
-use Rattle.lists.proofs.Parts.{drop_here}
 use Rattle.lists.proofs.Stores.{sets_append}
 use Rattle.wkt.specs.Words.{minus_if, comma, ring_word, ring_end, empty_line}
 use Rattle.wkt.specs.Grammar.{point}
@@ -68,25 +67,19 @@ unfolding shown
 shown_is places x q p b eq ep eb = rw (eb, ep, eq)
 
 -- ---- the points of a part
-pub points_next : (l : List Float) (i : ℕ) → 2 * i + 1 < length l → points_of (drop (2 * i) l) ≡ point (get_or l (2 * i) nan) (get_or l (2 * i + 1) nan) ∷ points_of (drop (2 * (i + 1)) l)
-points_next l i h =
-    let e : 2 * i + 1 + 1 ≡ 2 * (i + 1) = omega arith in
-    ap points_of (drop_here l (2 * i) nan (omega arith) ∙ ap (λ (t : List Float). get_or l (2 * i) nan ∷ t) (drop_here l (2 * i + 1) nan h ∙ ap (λ (k : ℕ). get_or l (2 * i + 1) nan ∷ drop k l) e))
+pub points_end : (l : List Float) → length l ≤ 1 → points_of l ≡ []
+points_end [] h = refl
+points_end (x ∷ []) h = refl
+points_end (x ∷ y ∷ l) h = absurd (omega arith)
 
-short : (l : List Float) → length l ≤ 1 → points_of l ≡ []
-short [] h = refl
-short (x ∷ []) h = refl
-short (x ∷ y ∷ l) h = absurd (omega arith)
-
-pub points_end : (l : List Float) (i : ℕ) → length l ≤ 2 * i + 1 → points_of (drop (2 * i) l) ≡ []
-points_end l i h = short (drop (2 * i) l) (omega (arith, length-drop (2 * i) l))
-
-pub list_next : (places : ℕ) (l : List Float) (i : ℕ) → 2 * i + 1 < length l
-    → list_text places (points_of (drop (2 * i) l)) ≡ (point_text places (point (get_or l (2 * i) nan) (get_or l (2 * i + 1) nan)) ++ comma) ++ list_text places (points_of (drop (2 * (i + 1)) l))
-list_next places l i h = ap (list_text places) (points_next l i h) ∙ sym (append_assoc (point_text places (point (get_or l (2 * i) nan) (get_or l (2 * i + 1) nan))) comma (list_text places (points_of (drop (2 * (i + 1)) l))))
+pub list_next : (places : ℕ) (a l : List Float) → length a ≡ 2 → list_text places (points_of (a ++ l)) ≡ (point_text places (point (get_or a 0 nan) (get_or a 1 nan)) ++ comma) ++ list_text places (points_of l)
+list_next places [] l h = absurd (omega arith)
+list_next places (x ∷ []) l h = absurd (omega arith)
+list_next places (x ∷ y ∷ []) l h = sym (append_assoc (point_text places (point x y)) comma (list_text places (points_of l)))
+list_next places (x ∷ y ∷ z ∷ a) l h = absurd (omega arith)
 
 pub polygon_none : (places : ℕ) (l : List Float) → length l < 2 → empty_line ≡ polygon_text places (points_of l)
-polygon_none places l h = sym (ap (polygon_text places) (short l (omega arith)))
+polygon_none places l h = sym (ap (polygon_text places) (points_end l (omega arith)))
 
 pub polygon_some : (places : ℕ) (l : List Float) → 2 ≤ length l
     → ring_word ++ (list_text places (points_of l) ++ (point_text places (point (get_or l 0 nan) (get_or l 1 nan)) ++ ring_end)) ≡ polygon_text places (points_of l)

@@ -16,13 +16,7 @@ fn two_to(k: u64) -> u64
     requires { k ≤ 62 }
     ensures { result ≡ 2 ^ k }
 {
-    let mut p: u64 = 1;
-    let mut i: u64 = 0;
-    while i < k {
-        p *= 2;
-        i += 1;
-    }
-    p
+    1 << k
 }
 
 // n * c / 2^k, rounded to the nearest, halves to even. n * c may have 73 bits: it is worked as w * 2^27 + l.
@@ -41,11 +35,8 @@ fn rounded(n: u64, c: u64, k: u64) -> u64
     if 2 * r < d {
         return q;
     }
-    if 2 * r == d {
-        if b % 134217728 == 0 {
-            return q + q % 2;
-        }
-        return q + 1;
+    if 2 * r == d && b % 134217728 == 0 {
+        return q + q % 2;
     }
     q + 1
 }
@@ -55,18 +46,15 @@ fn scaled_up(x: f64, places: usize) -> u64
     requires { (places ≤ 6) × (lt x (of_bits binary64 0) ≡ false) }
     ensures { result ≡ scaled_of places x }
 {
-    if 0.0 < x {
-        if x < 33554432.0 {
-            let c = wkt::ten_to(places);
-            let b = f64::to_bits(x);
-            let f = b / 4503599627370496;
-            let t = b % 4503599627370496;
-            if f == 0 {
-                return rounded(t, c, 1074);
-            }
-            return rounded(t + 4503599627370496, c, 1075 - f);
+    if 0.0 < x && x < 33554432.0 {
+        let c = wkt::ten_to(places);
+        let b = f64::to_bits(x);
+        let f = b / 4503599627370496;
+        let t = b % 4503599627370496;
+        if f == 0 {
+            return rounded(t, c, 1074);
         }
-        return 0;
+        return rounded(t + 4503599627370496, c, 1075 - f);
     }
     0
 }
@@ -89,24 +77,12 @@ fn width_of(n: u64) -> usize
 {
     let mut p: u64 = 10;
     let mut w: usize = 1;
+    // Each step is ten times as far: up to the first power that is more than n.
     while p <= n {
         p *= 10;
         w += 1;
     }
     w
-}
-
-fn narrow(d: u64) -> u8
-    requires { d < 256 }
-    ensures { result ≡ d }
-{
-    d as u8
-}
-
-fn wide(n: u32) -> u64
-    ensures { result ≡ n }
-{
-    n as u64
 }
 
 // n in k decimal digits, the last one first: so each takes one division by ten.
@@ -115,10 +91,8 @@ fn put_digits(out: &mut [u8], at: usize, k: usize, n: u64) -> usize
     ensures { Printed out.old at (fixed k n) out.new result }
 {
     let mut m = n;
-    let mut j = k;
-    while 0 < j {
-        j -= 1;
-        lists::put8(out, at + j, narrow(48 + m % 10));
+    for j in (0..k).rev() {
+        lists::put(out, at + j, b'0' + (m % 10) as u8);
         m /= 10;
     }
     at + k
@@ -136,10 +110,7 @@ fn put_whole(out: &mut [u8], at: usize, n: u64) -> usize
 fn is_minus(x: f64, q: u64) -> bool
     ensures { result ≡ (lt x (of_bits binary64 0) && not (eqb q 0)) }
 {
-    if x < 0.0 {
-        return q != 0;
-    }
-    false
+    x < 0.0 && q != 0
 }
 
 fn put_minus(out: &mut [u8], at: usize, minus: bool) -> usize
@@ -147,7 +118,7 @@ fn put_minus(out: &mut [u8], at: usize, minus: bool) -> usize
     ensures { Printed out.old at (minus_if minus) out.new result }
 {
     if minus {
-        lists::put8(out, at, b'-');
+        lists::put(out, at, b'-');
         return at + 1;
     }
     at
@@ -162,7 +133,7 @@ pub fn print_number(out: &mut [u8], at: usize, x: f64, places: usize) -> usize
     let p = wkt::ten_to(places);
     let i = put_minus(out, at, is_minus(x, q));
     let j = put_whole(out, i, q / p);
-    lists::put8(out, j, b'.');
+    lists::put(out, j, b'.');
     put_digits(out, j + 1, places, q % p)
 }
 
@@ -171,12 +142,10 @@ fn put_word(out: &mut [u8], at: usize, word: &[u8]) -> usize
     requires { (at < 1099511627776) × (length word.now < 256) }
     ensures { Printed out.old at word.now out.new result }
 {
-    let mut i = 0;
-    while i < word.len() {
-        lists::put8(out, at + i, word[i]);
-        i += 1;
+    for (i, b) in word.iter().enumerate() {
+        lists::put(out, at + i, *b);
     }
-    at + i
+    at + word.len()
 }
 
 // x y
@@ -185,7 +154,7 @@ fn print_point(out: &mut [u8], at: usize, x: f64, y: f64, places: usize) -> usiz
     ensures { Printed out.old at (point_text places (point x y)) out.new result }
 {
     let i = print_number(out, at, x, places);
-    lists::put8(out, i, b' ');
+    lists::put(out, i, b' ');
     print_number(out, i + 1, y, places)
 }
 
@@ -194,12 +163,10 @@ fn print_points(out: &mut [u8], at: usize, pts: &[f64], places: usize) -> usize
     requires { (places ≤ 6) × (length pts.now < 4294967296) × (at < 4294967808) }
     ensures { Printed out.old at (list_text places (points_of pts.now)) out.new result }
 {
-    let mut i = 0;
     let mut j = at;
-    while 2 * i + 1 < pts.len() {
-        j = print_point(out, j, pts[2 * i], pts[2 * i + 1], places);
+    for p in pts.chunks_exact(2) {
+        j = print_point(out, j, p[0], p[1], places);
         j = put_word(out, j, b", ");
-        i += 1;
     }
     j
 }
@@ -225,6 +192,6 @@ pub fn print_refused(out: &mut [u8], at: usize, n: u32) -> usize
     ensures { Printed out.old at (refused_text n) out.new result }
 {
     let i = put_word(out, at, b"REFUSED ");
-    let j = put_whole(out, i, wide(n));
+    let j = put_whole(out, i, u64::from(n));
     put_word(out, j, b"\n")
 }

@@ -4,4 +4,4 @@ use Rattle.build.proofs.given_point.Goals as goal
 
 pub returns : goal.returns
 unfolding load_point_of
-returns c = simp (c.load-2.ensures, c.at64-2.ensures, c.load.ensures, c.at64.ensures)
+returns c = simp (c.load-2.ensures, c.at-2.ensures, c.load.ensures, c.at.ensures)

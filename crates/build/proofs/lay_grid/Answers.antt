@@ -16,8 +16,8 @@ few_cells-requires c = (rw c.columns-cols.ensures (some_columns _ _), rw c.colum
 
 pub returns-then-not-few_cells : goal.returns-then-not-few_cells
 returns-then-not-few_cells c =
-    let b : c.measure-m.result.bounds ≡ bounds_of (load_of c.args.width) (load_of c.args.height) (stored_boxes c.args.given.now c.args.lens.now) = rw (c.load.ensures, c.load-2.ensures) at c.measure-m.ensures.0 in
-    many_cells c.args.width c.args.height c.args.given.now c.args.lens.now c.measure-m.result.bounds c.measure-m.result.sides c.cell_from-cell.result c.columns-cols.result c.columns-rows.result b c.measure-m.ensures.1 c.cell_from-cell.ensures (c.columns-cols.ensures ∙ ap (λ (x : Float). columns_of x c.cell_from-cell.result) c.width.ensures) (c.columns-rows.ensures ∙ ap (λ (x : Float). columns_of x c.cell_from-cell.result) c.height.ensures) c.args.room c.few_cells.result c.few_cells.ensures (c.if-not-few_cells.true)
+    let b : c.measure.result.bounds ≡ bounds_of (load_of c.args.width) (load_of c.args.height) (stored_boxes c.args.given.now c.args.lens.now) = rw (c.load.ensures, c.load-2.ensures) at c.measure.ensures.0 in
+    many_cells c.args.width c.args.height c.args.given.now c.args.lens.now c.measure.result.bounds c.measure.result.sides c.cell_from-cell.result c.columns-cols.result c.columns-rows.result b c.measure.ensures.1 c.cell_from-cell.ensures (c.columns-cols.ensures ∙ ap (λ (x : Float). columns_of x c.cell_from-cell.result) c.width.ensures) (c.columns-rows.ensures ∙ ap (λ (x : Float). columns_of x c.cell_from-cell.result) c.height.ensures) c.args.room c.few_cells.result c.few_cells.ensures (c.if-not-few_cells.true)
 
 pub overflow_cast-g : goal.overflow_cast-g
 overflow_cast-g c = omega (arith, few_columns c.columns-cols.result c.columns-rows.result (rw c.columns-rows.ensures (some_columns _ _)) (sym c.few_cells.ensures ∙ c.if-not-few_cells.false))
@@ -30,5 +30,5 @@ fit-requires c = (cells_limits _ (rw c.columns-cols.ensures (some_columns _ _)) 
 
 pub returns : goal.returns
 returns c =
-    let b : c.measure-m.result.bounds ≡ bounds_of (load_of c.args.width) (load_of c.args.height) (stored_boxes c.args.given.now c.args.lens.now) = rw (c.load.ensures, c.load-2.ensures) at c.measure-m.ensures.0 in
-    c.fit.ensures ∙ ap (λ (g : Grid). plan_by c.args.width c.args.height g c.args.given.now c.args.lens.now c.args.room) (grid_is c.args.width c.args.height c.args.given.now c.args.lens.now c.measure-m.result.bounds c.measure-m.result.sides c.cell_from-cell.result c.columns-cols.result c.columns-rows.result b c.measure-m.ensures.1 c.cell_from-cell.ensures (c.columns-cols.ensures ∙ ap (λ (x : Float). columns_of x c.cell_from-cell.result) c.width.ensures) (c.columns-rows.ensures ∙ ap (λ (x : Float). columns_of x c.cell_from-cell.result) c.height.ensures))
+    let b : c.measure.result.bounds ≡ bounds_of (load_of c.args.width) (load_of c.args.height) (stored_boxes c.args.given.now c.args.lens.now) = rw (c.load.ensures, c.load-2.ensures) at c.measure.ensures.0 in
+    c.fit.ensures ∙ ap (λ (g : Grid). plan_by c.args.width c.args.height g c.args.given.now c.args.lens.now c.args.room) (grid_is c.args.width c.args.height c.args.given.now c.args.lens.now c.measure.result.bounds c.measure.result.sides c.cell_from-cell.result c.columns-cols.result c.columns-rows.result b c.measure.ensures.1 c.cell_from-cell.ensures (c.columns-cols.ensures ∙ ap (λ (x : Float). columns_of x c.cell_from-cell.result) c.width.ensures) (c.columns-rows.ensures ∙ ap (λ (x : Float). columns_of x c.cell_from-cell.result) c.height.ensures))

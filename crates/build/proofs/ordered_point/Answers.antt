@@ -2,9 +2,11 @@
 use mathlib.Core.Path.{sym, ◌∙◌}
 use Rattle.build.proofs.Orders.{ordered_given, ordered_turned}
 use Rattle.build.proofs.ordered_point.Goals as goal
-
-pub returns-then-reversed : goal.returns-then-reversed
-returns-then-reversed c = c.given_point.ensures ∙ sym (rw c.if-reversed.true (ordered_turned c.args.given.now c.args.first c.args.len c.requires.0 c.args.i c.requires.1))
+use Rattle.build.proofs.ordered_point.Goals.{then-reversed, else-reversed}
 
 pub returns : goal.returns
-returns c = c.given_point-2.ensures ∙ sym (rw c.if-reversed.false (ordered_given c.args.given.now c.args.first c.args.len c.requires.0 c.args.i c.requires.1))
+returns c =
+    c.given_point.ensures ∙ sym (elim c.if-reversed.branch [
+      | then-reversed w ↦ rw (w.if-reversed.true, w.at-is) (ordered_turned c.args.given.now c.args.first c.args.len c.requires.0 c.args.i c.requires.1)
+      | else-reversed w ↦ rw (w.if-reversed.false, w.at-is) (ordered_given c.args.given.now c.args.first c.args.len c.requires.0 c.args.i c.requires.1)
+    ])

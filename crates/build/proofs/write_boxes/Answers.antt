@@ -14,21 +14,15 @@ use Rattle.build.specs.Stored.{box_numbers}
 use Rattle.build.proofs.Writing.{blocks_length, next_block, cleared}
 use Rattle.build.proofs.write_boxes.Goals as goal
 
-pub loop-k-init : goal.loop-k-init
-loop-k-init c = (omega arith, refl, refl)
-
 pub loop-k-preserved : goal.loop-k-preserved
 loop-k-preserved c =
     let f : ℕ → List Float = λ j. box_numbers (box_of c.args.points.now c.args.polygons.now j) in
-    let e : length (joined f c.loop-k.k) ≡ c.loop-k.k * 4 = blocks_length f (λ _. 4) c.loop-k.k (λ k h. refl) ∙ sum_to_const 4 c.loop-k.k in (
-      omega arith,
-      omega (arith, c.put_box.auto.boxes),
-      next_block c.args.boxes.now f c.loop-k.k (4 * c.loop-k.k) c.loop-k.boxes _ (box_numbers c.box_of.result) c.loop-k.invariant.2 c.put_box.ensures (ap box_numbers c.box_of.ensures) (omega arith),
-    )
+    let e : length (joined f c.loop-k.k) ≡ c.loop-k.k * 4 = blocks_length f (λ _. 4) c.loop-k.k (λ k h. refl) ∙ sum_to_const 4 c.loop-k.k in
+    next_block c.args.boxes.now f c.loop-k.k (4 * c.loop-k.k) c.loop-k.boxes _ (box_numbers c.box_of.result) c.loop-k.invariant c.put_box.ensures (ap box_numbers c.box_of.ensures) (omega arith)
 
 pub returns : goal.returns
 returns c =
     let f : ℕ → List Float = λ j. box_numbers (box_of c.args.points.now c.args.polygons.now j) in
     let k : c.loop-k.k ≡ c.args.n = omega arith in
     let e : length (joined f c.args.n) ≡ c.args.n * 4 = blocks_length f (λ _. 4) c.args.n (λ k h. refl) ∙ sum_to_const 4 c.args.n in
-    cleared zero_f c.args.boxes.now (joined f c.args.n) (4 * c.wide.result) c.loop-k.boxes _ (c.loop-k.invariant.2 ∙ ap (λ (m : ℕ). sets c.args.boxes.now 0 (joined f m)) k) c.clear_from64.ensures (omega (arith, c.wide.ensures)) (omega (arith, c.requires))
+    cleared zero_f c.args.boxes.now (joined f c.args.n) (4 * c.args.n) c.loop-k.boxes _ (c.loop-k.invariant ∙ ap (λ (m : ℕ). sets c.args.boxes.now 0 (joined f m)) k) c.clear_from.ensures (omega arith) (omega (arith, c.requires))

@@ -9,28 +9,24 @@ use lib.ListN.{replicate, length-replicate, length}
 use Rattle.lists.proofs.Sums.{sum_to_step}
 use Rattle.lists.specs.Lists.{joined}
 use Rattle.build.specs.Stored.{first_in, len_in, owners_table}
-use Rattle.build.proofs.Writing.{blocks_length, next_block, cleared}
+use Rattle.build.proofs.Writing.{blocks_length, next_block, cleared, filled}
 use Rattle.build.proofs.write_owners.Goals as goal
 
--- `write_owners`: polygon after polygon from the front, and zeros after the last. Assumes nothing.
+pub offset_bounds-owners-first : goal.offset_bounds-owners-first
+offset_bounds-owners-first c = omega (arith, sum_to_step (len_in c.args.lens.now) c.loop-k.k (length c.args.lens.now) (omega arith), c.requires.1)
 
-pub loop-k-init : goal.loop-k-init
-loop-k-init c = (omega arith, refl, refl, refl)
+pub slice_bounds-fill-end : goal.slice_bounds-fill-end
+slice_bounds-fill-end c = omega (arith, sum_to_step (len_in c.args.lens.now) c.loop-k.k (length c.args.lens.now) (omega arith), c.requires.1)
 
-pub own-requires : goal.own-requires
-own-requires c = omega (arith, sum_to_step (len_in c.args.lens.now) c.loop-k.k (length c.args.lens.now) (omega arith), c.requires.1, c.wide-len.ensures, c.at32.ensures)
-
-pub overflow_add-first : goal.overflow_add-first
-overflow_add-first c = omega (arith, sum_to_step (len_in c.args.lens.now) c.loop-k.k (length c.args.lens.now) (omega arith), c.requires.1, c.wide-len.ensures, c.at32.ensures)
+pub overflow_add-end : goal.overflow_add-end
+overflow_add-end c = omega (arith, sum_to_step (len_in c.args.lens.now) c.loop-k.k (length c.args.lens.now) (omega arith), c.requires.1)
 
 pub loop-k-preserved : goal.loop-k-preserved
 loop-k-preserved c =
     let f : ℕ → List ℕ = λ j. replicate (len_in c.args.lens.now j) j in
     let e : length (joined f c.loop-k.k) ≡ first_in c.args.lens.now c.loop-k.k = blocks_length f (len_in c.args.lens.now) c.loop-k.k (λ j h. length-replicate (len_in c.args.lens.now j) j) in (
-      omega arith,
-      rw (add-one c.loop-k.k) (omega (arith, c.wide-len.ensures, c.at32.ensures, c.loop-k.invariant.1)),
-      omega (arith, c.own.auto.owners),
-      next_block c.args.owners.now f c.loop-k.k c.loop-k.first c.loop-k.owners _ (replicate c.wide-len.result c.loop-k.k) c.loop-k.invariant.3 c.own.ensures (ap (λ (n : ℕ). replicate n c.loop-k.k) (c.wide-len.ensures ∙ c.at32.ensures)) (c.loop-k.invariant.1 ∙ sym e),
+      rw (add-one c.loop-k.k) (omega (arith, c.loop-k.invariant.0)),
+      next_block c.args.owners.now f c.loop-k.k c.loop-k.first c.loop-k.owners _ (replicate (len_in c.args.lens.now c.loop-k.k) c.loop-k.k) c.loop-k.invariant.1 (filled c.loop-k.owners _ c.loop-k.first _ (len_in c.args.lens.now c.loop-k.k) c.loop-k.k refl (omega (arith, sum_to_step (len_in c.args.lens.now) c.loop-k.k (length c.args.lens.now) (omega arith), c.requires.1)) (c.fill.ensures.after (λ y q. q))) refl (c.loop-k.invariant.0 ∙ sym e),
     )
 
 pub returns : goal.returns
@@ -39,4 +35,4 @@ returns c =
     let f : ℕ → List ℕ = λ j. replicate (len_in c.args.lens.now j) j in
     let k : c.loop-k.k ≡ length c.args.lens.now = omega arith in
     let e : length (joined f (length c.args.lens.now)) ≡ first_in c.args.lens.now (length c.args.lens.now) = blocks_length f (len_in c.args.lens.now) (length c.args.lens.now) (λ j h. length-replicate (len_in c.args.lens.now j) j) in
-    cleared 0 c.args.owners.now (joined f (length c.args.lens.now)) c.loop-k.first c.loop-k.owners _ (c.loop-k.invariant.3 ∙ ap (λ (n : ℕ). sets c.args.owners.now 0 (joined f n)) k) c.clear_from32.ensures (c.loop-k.invariant.1 ∙ ap (first_in c.args.lens.now) k ∙ sym e) (omega (arith, c.requires.1))
+    cleared 0 c.args.owners.now (joined f (length c.args.lens.now)) c.loop-k.first c.loop-k.owners _ (c.loop-k.invariant.1 ∙ ap (λ (n : ℕ). sets c.args.owners.now 0 (joined f n)) k) c.clear_from.ensures (c.loop-k.invariant.0 ∙ ap (first_in c.args.lens.now) k ∙ sym e) (omega (arith, c.requires.1))

@@ -12,31 +12,25 @@ use Rattle.build.proofs.Writing.{next_block, cleared}
 use Rattle.build.proofs.Orders.{held, held_is, stored_is, points_length}
 use Rattle.build.proofs.write_points.Goals as goal
 
-pub loop-k-init : goal.loop-k-init
-loop-k-init c = (omega arith, refl, refl, refl)
-
 pub is_reversed-reversed-requires : goal.is_reversed-reversed-requires
-is_reversed-reversed-requires c = held_is c.args.given.now c.args.lens.now c.loop-k.k c.loop-k.first c.wide-len.result c.loop-k.invariant.1 (c.wide-len.ensures ∙ c.at32.ensures) c.requires.0 (omega arith)
+is_reversed-reversed-requires c = held_is c.args.given.now c.args.lens.now c.loop-len.len-index c.loop-len.first _ c.loop-len.invariant.0 refl c.requires.0 (omega arith)
 
 pub write_ordered-requires : goal.write_ordered-requires
-write_ordered-requires c = held_is c.args.given.now c.args.lens.now c.loop-k.k c.loop-k.first c.wide-len.result c.loop-k.invariant.1 (c.wide-len.ensures ∙ c.at32.ensures) c.requires.0 (omega arith)
+write_ordered-requires c = held_is c.args.given.now c.args.lens.now c.loop-len.len-index c.loop-len.first _ c.loop-len.invariant.0 refl c.requires.0 (omega arith)
 
 pub overflow_add-first : goal.overflow_add-first
-overflow_add-first c = omega (arith, held c.args.given.now c.args.lens.now c.loop-k.k c.requires.0 (omega arith), c.wide-len.ensures, c.at32.ensures)
+overflow_add-first c = omega (arith, held c.args.given.now c.args.lens.now c.loop-len.len-index c.requires.0 (omega arith))
 
-pub loop-k-preserved : goal.loop-k-preserved
-loop-k-preserved c =
-    let len = c.wide-len.ensures ∙ c.at32.ensures in
-    let e : length (joined (stored_of c.args.given.now c.args.lens.now) c.loop-k.k) ≡ 2 * first_in c.args.lens.now c.loop-k.k = points_length c.args.given.now c.args.lens.now c.loop-k.k c.requires.0 (omega arith) in (
-      omega arith,
-      rw (add-one c.loop-k.k) (omega (arith, c.wide-len.ensures, c.at32.ensures, c.loop-k.invariant.1)),
-      omega (arith, c.write_ordered.auto.points),
-      next_block c.args.points.now (stored_of c.args.given.now c.args.lens.now) c.loop-k.k (2 * c.loop-k.first) c.loop-k.points _ (ordered_at c.is_reversed-reversed.result c.args.given.now c.loop-k.first c.wide-len.result) c.loop-k.invariant.3 c.write_ordered.ensures (stored_is c.args.given.now c.args.lens.now c.loop-k.k c.loop-k.first c.wide-len.result c.loop-k.invariant.1 len c.is_reversed-reversed.result c.is_reversed-reversed.ensures) (omega arith),
+pub loop-len-preserved : goal.loop-len-preserved
+loop-len-preserved c =
+    let e : length (joined (stored_of c.args.given.now c.args.lens.now) c.loop-len.len-index) ≡ 2 * first_in c.args.lens.now c.loop-len.len-index = points_length c.args.given.now c.args.lens.now c.loop-len.len-index c.requires.0 (omega arith) in (
+      rw (add-one c.loop-len.len-index) (omega (arith, c.loop-len.invariant.0)),
+      next_block c.args.points.now (stored_of c.args.given.now c.args.lens.now) c.loop-len.len-index (2 * c.loop-len.first) c.loop-len.points _ (ordered_at c.is_reversed-reversed.result c.args.given.now c.loop-len.first _) c.loop-len.invariant.1 c.write_ordered.ensures (stored_is c.args.given.now c.args.lens.now c.loop-len.len-index c.loop-len.first _ c.loop-len.invariant.0 refl c.is_reversed-reversed.result c.is_reversed-reversed.ensures) (omega arith),
     )
 
 pub returns : goal.returns
 unfolding points_of
 returns c =
-    let k : c.loop-k.k ≡ length c.args.lens.now = omega arith in
+    let k : c.loop-len.len-index ≡ length c.args.lens.now = omega arith in
     let e : length (joined (stored_of c.args.given.now c.args.lens.now) (length c.args.lens.now)) ≡ 2 * first_in c.args.lens.now (length c.args.lens.now) = points_length c.args.given.now c.args.lens.now (length c.args.lens.now) c.requires.0 (omega arith) in
-    cleared zero_f c.args.points.now (joined (stored_of c.args.given.now c.args.lens.now) (length c.args.lens.now)) (length c.args.given.now) c.loop-k.points _ (c.loop-k.invariant.3 ∙ ap (λ (n : ℕ). sets c.args.points.now 0 (joined (stored_of c.args.given.now c.args.lens.now) n)) k) c.clear_from64.ensures (omega (arith, c.requires.0.numbers_add_up)) (omega (arith, c.requires.0.numbers_add_up, c.requires.1))
+    cleared zero_f c.args.points.now (joined (stored_of c.args.given.now c.args.lens.now) (length c.args.lens.now)) (length c.args.given.now) c.loop-len.points _ (c.loop-len.invariant.1 ∙ ap (λ (n : ℕ). sets c.args.points.now 0 (joined (stored_of c.args.given.now c.args.lens.now) n)) k) c.clear_from.ensures (omega (arith, c.requires.0.numbers_add_up)) (omega (arith, c.requires.0.numbers_add_up, c.requires.1))

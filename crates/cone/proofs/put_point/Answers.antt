@@ -3,4 +3,4 @@ use native.Mathlib.Numerals.{add-one}
 use Rattle.cone.proofs.put_point.Goals as goal
 
 pub returns : goal.returns
-returns c = simp (c.put64-2.ensures, c.put64.ensures, c.wide-at.ensures, add-one)
+returns c = simp (c.put-2.ensures, c.put.ensures, add-one)

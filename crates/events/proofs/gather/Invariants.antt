@@ -1,10 +1,6 @@
 -- `gather`: what is closed, and what the open event and the rest come to, are all the merged events. Assumes nothing.
-use Prim.Native.Nat.{◌-◌}
 use Rattle.events.proofs.Loop.{Loop}
 use Rattle.events.proofs.gather.Given as goal
 
 abbrev pub invariant-loop-t : goal.invariant-loop-t
 invariant-loop-t l = Loop l.k l.initial.floats l.initial.words l.m l.floats l.words l.g l.t
-
-abbrev pub decreases-loop-t : goal.decreases-loop-t
-decreases-loop-t l = l.m - l.t

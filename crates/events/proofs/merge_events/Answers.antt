@@ -15,7 +15,7 @@ pub returns-then-full : goal.returns-then-full
 returns-then-full c = record { merges = full_sides c.args.k c.args.floats.now c.args.floats.now c.merge_sorted.new.floats c.args.words.now c.args.words.now c.merge_sorted.new.words c.args.n c.merge_sorted.result c.args.full c.args.fov c.if-full.true c.merge_sorted.ensures.merges; only = wider c.args.k c.args.floats.now c.args.floats.now c.merge_sorted.new.floats c.args.words.now c.args.words.now c.merge_sorted.new.words c.merge_sorted.ensures.only }
 
 pub returns-then-k-n-lt2 : goal.returns-then-k-n-lt2
-returns-then-k-n-lt2 c = record { merges = no_sides c.args.k c.args.floats.now c.args.floats.now c.args.floats.now c.args.words.now c.args.words.now c.args.words.now c.args.n _ c.args.full c.args.fov c.if-full.false (omega (arith, c.if-k-n-lt2.true)) refl (omega (arith, c.wide.ensures)); only = (only_refl _ _ _, only_refl _ _ _) }
+returns-then-k-n-lt2 c = record { merges = no_sides c.args.k c.args.floats.now c.args.floats.now c.args.floats.now c.args.words.now c.args.words.now c.args.words.now c.args.n _ c.args.full c.args.fov c.if-full.false (omega (arith, c.if-k-n-lt2.true)) refl (omega (arith)); only = (only_refl _ _ _, only_refl _ _ _) }
 
 pub shape_of-floats : goal.shape_of-floats
 shape_of-floats c = c.merge_sorted-2.auto.floats ∙ c.push_sides.auto.floats

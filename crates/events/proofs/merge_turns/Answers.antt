@@ -1,26 +1,27 @@
 -- `merge_turns`: the last event closed, or no room for a corner. Assumes nothing.
+use Rattle.std.proofs.Common.{refl}
 use mathlib.Core.Path.{◌∙◌}
 use Rattle.events.proofs.Loop.{full_done, close_last, last_done}
 use Rattle.events.proofs.Reading.{frame_trans}
 use Rattle.events.proofs.merge_turns.Goals as goal
 
 pub close-requires : goal.close-requires
-close-requires c = close_last c.args.k c.args.floats.now c.args.words.now c.args.m c.requires c.gather.new.floats c.gather.new.words c.gather.ensures.ends c.gather.ensures.frame c.in-Still.g c.in-Still.is
+close-requires c = close_last c.args.k c.args.floats.now c.args.words.now c.args.m c.requires c.gather.new.floats c.gather.new.words c.gather.ensures.ends c.gather.ensures.frame c.in-Some.g c.in-Some.is
 
-pub shape_of-floats-in-Full : goal.shape_of-floats-in-Full
-shape_of-floats-in-Full c = c.gather.auto.floats
+pub shape_of-floats-in_default : goal.shape_of-floats-in_default
+shape_of-floats-in_default c = c.gather.auto.floats
 
-pub shape_of-words-in-Full : goal.shape_of-words-in-Full
-shape_of-words-in-Full c = c.gather.auto.words
+pub shape_of-words-in_default : goal.shape_of-words-in_default
+shape_of-words-in_default c = c.gather.auto.words
 
-pub returns-in-Full : goal.returns-in-Full
-returns-in-Full c = record { done = full_done c.args.k c.args.floats.now c.args.words.now c.args.m c.requires c.gather.new.floats c.gather.new.words c.gather.ensures.ends c.gather.ensures.frame c.in-Full.is c.wide.ensures; frame = c.gather.ensures.frame }
+pub returns-in_default : goal.returns-in_default
+returns-in_default c = record { done = full_done c.args.k c.args.floats.now c.args.words.now c.args.m c.requires c.gather.new.floats c.gather.new.words c.gather.ensures.ends c.gather.ensures.frame c.in_default.is refl; frame = c.gather.ensures.frame }
 
-pub shape_of-floats-in-Still : goal.shape_of-floats-in-Still
-shape_of-floats-in-Still c = c.close.auto.floats ∙ c.gather.auto.floats
+pub shape_of-floats : goal.shape_of-floats
+shape_of-floats c = c.close.auto.floats ∙ c.gather.auto.floats
 
-pub shape_of-words-in-Still : goal.shape_of-words-in-Still
-shape_of-words-in-Still c = c.close.auto.words ∙ c.gather.auto.words
+pub shape_of-words : goal.shape_of-words
+shape_of-words c = c.close.auto.words ∙ c.gather.auto.words
 
-pub returns-in-Still : goal.returns-in-Still
-returns-in-Still c = record { done = last_done c.args.k c.args.floats.now c.args.words.now c.args.m c.requires c.gather.new.floats c.gather.new.words c.gather.ensures.ends c.gather.ensures.frame c.in-Still.g c.in-Still.is c.close.new.floats c.close.new.words c.close.ensures c.wide-in-Still.ensures c.wide-in-Still-2.ensures c.wide-in-Still-3.ensures; frame = frame_trans c.gather.ensures.frame c.close.ensures.frame }
+pub returns : goal.returns
+returns c = record { done = last_done c.args.k c.args.floats.now c.args.words.now c.args.m c.requires c.gather.new.floats c.gather.new.words c.gather.ensures.ends c.gather.ensures.frame c.in-Some.g c.in-Some.is c.close.new.floats c.close.new.words c.close.ensures refl refl refl; frame = frame_trans c.gather.ensures.frame c.close.ensures.frame }

@@ -1,9 +1,9 @@
--- `fan::add_end`: an end is added as an event where the view holds it. Assumes nothing.
-use Rattle.fan.proofs.Adding.{added_none, end_held, end_unheld}
+-- `fan::add_end`: the event of an end is added, where it is one. Assumes nothing.
+use Rattle.fan.proofs.Adding.{added_none}
 use Rattle.fan.proofs.add_end.Goals as goal
 
-pub returns-then-e : goal.returns-then-e
-returns-then-e c = end_held _ c.if-e.true c.add_event.ensures
+pub returns-in-Some : goal.returns-in-Some
+returns-in-Some c = rw c.in-Some.is c.add_event.ensures
 
-pub returns : goal.returns
-returns c = end_unheld _ c.if-e.false (added_none _ _ _)
+pub returns-in-None : goal.returns-in-None
+returns-in-None c = rw c.in-None.is (added_none _ _ _)

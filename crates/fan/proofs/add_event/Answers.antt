@@ -2,12 +2,10 @@
 use Rattle.fan.proofs.Adding.{event_written, event_counted}
 use mathlib.Core.Path.{refl}
 use Rattle.fan.proofs.add_event.Goals as goal
+use Rattle.fan.proofs.add_event.Goals.{then-n-k, else-n-k}
 
 pub put_event-requires : goal.put_event-requires
 put_event-requires c = record { fit = c.requires.fit; below = c.if-n-k.true }
 
-pub returns-then-n-k : goal.returns-then-n-k
-returns-then-n-k c = event_written _ _ _ _ _ _ refl refl refl refl _ _ c.if-n-k.true c.put_event.ensures
-
 pub returns : goal.returns
-returns c = event_counted _ _ _ _ _ _ refl refl refl refl c.if-n-k.false
+returns c = elim c.if-n-k.branch [ then-n-k w ↦ rw (w.floats-is, w.words-is) (event_written _ _ _ _ _ _ refl refl refl refl _ _ w.if-n-k.true w.put_event.ensures) | else-n-k w ↦ rw (w.floats-is, w.words-is) (event_counted _ _ _ _ _ _ refl refl refl refl w.if-n-k.false) ]

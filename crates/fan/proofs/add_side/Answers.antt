@@ -11,10 +11,10 @@ use Rattle.fan.proofs.add_side.Goals as goal
 pub add_ends-requires : goal.add_ends-requires
 add_ends-requires c = record { fit = fit_after c.add_edge-s.ensures c.requires.fit; below = below_after c.add_edge-s.ensures {b = 2 ^ 61} _ 1 (omega arith) (grows_edge _) (record { candidates = c.requires.below.candidates; edges = c.requires.below.edges; events = c.requires.below.events }) }
 
-pub returns-in-Back : goal.returns-in-Back
+pub returns-in_default : goal.returns-in_default
 unfolding side_fan
-returns-in-Back c = rw c.in-Back.is (added_both (added_counts 0 _ _ _ _ _ (sym (add-zero _)) refl refl refl) (added_none _ _ _))
+returns-in_default c = rw c.in_default.is (added_both (added_counts 0 _ _ _ _ _ (sym (add-zero _)) refl refl refl) (added_none _ _ _))
 
-pub returns-in-Front : goal.returns-in-Front
+pub returns : goal.returns
 unfolding side_fan
-returns-in-Front c = rw c.in-Front.is (added_both (added_counts 0 _ _ _ _ _ (sym (add-zero _)) refl refl refl) (added_both c.add_edge-s.ensures c.add_ends.ensures))
+returns c = rw c.in-Some.is (added_both (added_counts 0 _ _ _ _ _ (sym (add-zero _)) refl refl refl) (added_both c.add_edge-s.ensures c.add_ends.ensures))

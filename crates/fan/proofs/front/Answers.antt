@@ -6,10 +6,10 @@ pub returns-then-facing : goal.returns-then-facing
 unfolding front_of
 returns-then-facing c = simp (← c.facing.ensures, c.if-facing.true)
 
-pub returns-in-Part : goal.returns-in-Part
+pub returns-in-Some : goal.returns-in-Some
 unfolding front_of
-returns-in-Part c = simp (← c.facing.ensures, c.if-facing.false, ← c.clip_segment_to_disk-clip.ensures, c.in-Part.is, ← c.clipped.ensures)
+returns-in-Some c = simp (← c.facing.ensures, c.if-facing.false, ← c.in-Some.ensures, ← c.clipped.ensures)
 
-pub returns-in-Outside : goal.returns-in-Outside
+pub returns-in-None : goal.returns-in-None
 unfolding front_of
-returns-in-Outside c = simp (← c.facing.ensures, c.if-facing.false, ← c.clip_segment_to_disk-clip.ensures, c.in-Outside.is)
+returns-in-None c = simp (← c.facing.ensures, c.if-facing.false, ← c.in-None.ensures)

@@ -4,4 +4,4 @@ use Rattle.fan.proofs.is_far.Goals as goal
 
 pub returns : goal.returns
 unfolding is_far
-returns c = simp (← c.wide.ensures, ← c.box_at.ensures, ← c.distance_sq_to.ensures)
+returns c = simp (← c.box_at.ensures, ← c.distance_sq_to.ensures)

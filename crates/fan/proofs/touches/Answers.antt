@@ -6,6 +6,6 @@ pub returns-then-cross-length_sq : goal.returns-then-cross-length_sq
 unfolding touches_of
 returns-then-cross-length_sq c = simp (← c.facing-cross.ensures, ← c.sub.ensures, ← c.length_sq.ensures, c.if-cross-length_sq.true, ← c.point_segment_distance.ensures)
 
-pub returns : goal.returns
+pub returns-else-cross-length_sq : goal.returns-else-cross-length_sq
 unfolding touches_of
-returns c = simp (← c.facing-cross.ensures, ← c.sub.ensures, ← c.length_sq.ensures, c.if-cross-length_sq.false)
+returns-else-cross-length_sq c = simp (← c.facing-cross.ensures, ← c.sub.ensures, ← c.length_sq.ensures, c.if-cross-length_sq.false)

@@ -16,21 +16,15 @@ corner-b-requires c = omega arith
 
 pub loop-i-init : goal.loop-i-init
 unfolding inside_up_to
-loop-i-init c = (omega arith, refl, c.corner-b.ensures)
+loop-i-init c = (refl, c.corner-b.ensures)
 
 pub corner-a-requires : goal.corner-a-requires
 corner-a-requires c = omega arith
 
-pub overflow_add-i : goal.overflow_add-i
-overflow_add-i c = omega arith
-
-pub loop-i-smaller : goal.loop-i-smaller
-loop-i-smaller c = omega arith
-
 pub loop-i-preserved : goal.loop-i-preserved
 unfolding inside_up_to xor
-loop-i-preserved c = (omega arith, simp (add-one, c.crosses-inside.ensures, c.corner-a.ensures, c.loop-i.invariant.1, c.loop-i.invariant.2), simp (add-one, c.corner-a.ensures))
+loop-i-preserved c = (simp (add-one, c.crosses-inside.ensures, c.corner-a.ensures, c.loop-i.invariant.0, c.loop-i.invariant.1), simp (add-one, c.corner-a.ensures))
 
 pub returns : goal.returns
 unfolding point_in_polygon_of
-returns c = simp (le-ltb _ _ c.if-n-lt3.false) (c.loop-i.invariant.1 ∙ ap (inside_up_to _ _) (le_antisymm c.loop-i.invariant.0 c.loop-i-test.false))
+returns c = simp (le-ltb _ _ c.if-n-lt3.false) (c.loop-i.invariant.0 ∙ ap (inside_up_to _ _) (le_antisymm (omega arith) c.loop-i-test.false))

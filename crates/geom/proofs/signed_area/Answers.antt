@@ -8,13 +8,10 @@ use Rattle.geom.proofs.signed_area.Goals as goal
 
 pub loop-i-init : goal.loop-i-init
 unfolding area_up_to
-loop-i-init c = (omega arith, refl)
+loop-i-init c = refl
 
 pub corner-a-requires : goal.corner-a-requires
 corner-a-requires c = omega arith
-
-pub overflow_add-i : goal.overflow_add-i
-overflow_add-i c = omega arith
 
 pub nonzero_rem-i : goal.nonzero_rem-i
 nonzero_rem-i c = omega arith
@@ -22,16 +19,10 @@ nonzero_rem-i c = omega arith
 pub corner-b-requires : goal.corner-b-requires
 corner-b-requires c = mod-lt _ (omega arith)
 
-pub overflow_add-i-in-loop-i : goal.overflow_add-i-in-loop-i
-overflow_add-i-in-loop-i c = omega arith
-
-pub loop-i-smaller : goal.loop-i-smaller
-loop-i-smaller c = omega arith
-
 pub loop-i-preserved : goal.loop-i-preserved
 unfolding area_up_to
-loop-i-preserved c = (omega arith, simp (add-one, c.cross-s.ensures, c.corner-b.ensures, c.corner-a.ensures, c.loop-i.invariant.1))
+loop-i-preserved c = simp (add-one, c.cross-s.ensures, c.corner-b.ensures, c.corner-a.ensures, c.loop-i.invariant)
 
 pub returns : goal.returns
 unfolding signed_area_of
-returns c = ap (λ (s : Float). half ⊗ s) (c.loop-i.invariant.1 ∙ ap (area_up_to _) (le_antisymm c.loop-i.invariant.0 c.loop-i-test.false))
+returns c = ap (λ (s : Float). half ⊗ s) (c.loop-i.invariant ∙ ap (area_up_to _) (le_antisymm (omega arith) c.loop-i-test.false))

@@ -4,4 +4,4 @@ use Rattle.grid.proofs.box_from.Goals as goal
 
 pub returns : goal.returns
 unfolding box_from
-returns c = simp (c.at64-4.ensures, c.at64-3.ensures, c.at64-2.ensures, c.at64.ensures)
+returns c = simp (c.at-4.ensures, c.at-3.ensures, c.at-2.ensures, c.at.ensures)

@@ -7,4 +7,4 @@ pub returns-then-e-lt4294967295 : goal.returns-then-e-lt4294967295
 returns-then-e-lt4294967295 c = simp (lt-ltb _ _ c.if-e-lt4294967295.true) (record { epoch_after = refl; marks_after = refl })
 
 pub returns-else-e-lt4294967295 : goal.returns-else-e-lt4294967295
-returns-else-e-lt4294967295 c = simp (le-ltb _ _ c.if-e-lt4294967295.false) (record { epoch_after = refl; marks_after = c.clear32.ensures })
+returns-else-e-lt4294967295 c = simp (le-ltb _ _ c.if-e-lt4294967295.false) (record { epoch_after = refl; marks_after = c.clear.ensures })

@@ -1,11 +1,8 @@
 -- `grid::stamp_part` meets its contract. Assumes nothing.
 use Rattle.grid.proofs.Stamping.{Left}
-use lib.ListN.{length, drop}
-use Prim.Native.Nat.{◌+◌, ◌≤◌, ◌-◌}
+use lib.ListN.{drop}
+use Prim.Native.Nat.{◌+◌, ◌≤◌}
 use Rattle.grid.proofs.stamp_part.Given as goal
 
-abbrev pub invariant-loop-i : goal.invariant-loop-i
-invariant-loop-i l = (l.i ≤ length l.part) × (l.at ≤ l.n + l.i) × Left l.part (drop l.i l.part) l.initial.marks l.e l.initial.ids l.n l.marks l.ids l.at
-
-abbrev pub decreases-loop-i : goal.decreases-loop-i
-decreases-loop-i l = length l.part - l.i
+abbrev pub invariant-loop-id : goal.invariant-loop-id
+invariant-loop-id l = (l.at ≤ l.n + l.id-index) × Left l.part (drop l.id-index l.part) l.initial.marks l.e l.initial.ids l.n l.marks l.ids l.at

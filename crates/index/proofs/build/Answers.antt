@@ -22,11 +22,11 @@ count_refs-refs-requires c =
     let f = some_few c.args.mode c.args.k c.args.floats.now c.args.words.now c.args.n c.args.total c.requires c.order_keys.new.us c.nearest_w.result c.events_w.result c.nearest_w.ensures c.events_w.ensures c.order_keys.ensures c.head-x.result c.head-x.ensures in
     (f.0, f.1, omega (arith, c.requires.held))
 
-pub returns-then-wide-refs : goal.returns-then-wide-refs
-returns-then-wide-refs c = over_refs c.args.mode c.args.k c.args.floats.now c.args.words.now c.args.n c.args.total c.requires c.order_keys.new.us c.nearest_w.result c.events_w.result c.nearest_w.ensures c.events_w.ensures c.order_keys.ensures c.head-x.result c.head-x.ensures c.count_refs-refs.result c.count_refs-refs.ensures c.if-k-x.false (omega (arith, c.if-wide-refs.true, c.wide.ensures))
+pub returns-then-k-refs : goal.returns-then-k-refs
+returns-then-k-refs c = over_refs c.args.mode c.args.k c.args.floats.now c.args.words.now c.args.n c.args.total c.requires c.order_keys.new.us c.nearest_w.result c.events_w.result c.nearest_w.ensures c.events_w.ensures c.order_keys.ensures c.head-x.result c.head-x.ensures c.count_refs-refs.result c.count_refs-refs.ensures c.if-k-x.false (omega (arith, c.if-k-refs.true))
 
 pub fill-requires-2 : goal.fill-requires-2
-fill-requires-2 c = fillable c.args.mode c.args.k c.args.floats.now c.args.words.now c.args.n c.args.total c.requires c.order_keys.new.us c.nearest_w.result c.events_w.result c.nearest_w.ensures c.events_w.ensures c.order_keys.ensures c.head-x.result c.head-x.ensures c.if-k-x.false (omega (arith, c.if-wide-refs.false, c.wide.ensures, c.count_refs-refs.ensures, c.struct_known-1.given, c.struct_known-2-1.given))
+fill-requires-2 c = fillable c.args.mode c.args.k c.args.floats.now c.args.words.now c.args.n c.args.total c.requires c.order_keys.new.us c.nearest_w.result c.events_w.result c.nearest_w.ensures c.events_w.ensures c.order_keys.ensures c.head-x.result c.head-x.ensures c.if-k-x.false (omega (arith, c.if-k-refs.false, c.count_refs-refs.ensures, c.struct_known-1.given, c.struct_known-2-1.given))
 
 pub returns : goal.returns
 returns c = done c.args.mode c.args.k c.args.floats.now c.args.words.now c.args.n c.args.total c.requires c.order_keys.new.us c.nearest_w.result c.events_w.result c.nearest_w.ensures c.events_w.ensures c.order_keys.ensures c.head-x.result c.head-x.ensures c.if-k-x.false c.fill-2.result c.fill-2.new.words c.fill-2.ensures

@@ -1,16 +1,12 @@
--- `lower`: the mode of the Rust, none yet, a lower number, a higher one. Assumes nothing.
-use borrow.Author.Tests.{not-true, not-false}
-use Rattle.index.proofs.Ways.{lower_rust, lower_none, lower_not, lower_so}
+-- `lower`: the lower number, the mode of the Rust, none yet. Assumes nothing.
+use Rattle.index.proofs.Ways.{lower_so, lower_rust, lower_none}
 use Rattle.index.proofs.lower.Goals as goal
 
-pub returns-then-mode-eq0 : goal.returns-then-mode-eq0
-returns-then-mode-eq0 c = lower_rust c.args.mode c.args.edge c.args.b c.if-mode-eq0.true
+pub returns-in-Some : goal.returns-in-Some
+returns-in-Some c = cc (lower_so c.args.mode c.args.edge c.args.b c.if-mode-ne0.true _ c.in-Some.is)
 
-pub returns-then-not-b : goal.returns-then-not-b
-returns-then-not-b c = lower_none c.args.mode c.args.edge c.args.b c.if-mode-eq0.false (not-true _ c.if-not-b.true)
+pub returns-in_default : goal.returns-in_default
+returns-in_default c = lower_rust c.args.mode c.args.edge c.args.b c.if-mode-ne0.false
 
-pub returns-then-edge-b : goal.returns-then-edge-b
-returns-then-edge-b c = lower_so c.args.mode c.args.edge c.args.b c.if-mode-eq0.false (not-false _ c.if-not-b.false) c.if-edge-b.true
-
-pub returns : goal.returns
-returns c = lower_not c.args.mode c.args.edge c.args.b c.if-mode-eq0.false (not-false _ c.if-not-b.false) c.if-edge-b.false
+pub returns-in_default-2 : goal.returns-in_default-2
+returns-in_default-2 c = lower_none c.args.mode c.args.edge c.args.b c.in_default.is

@@ -41,8 +41,5 @@ mark_edge-requires c = mark_room c.args.k c.args.floats.now c.args.x c.args.tota
 pub loop-r-preserved : goal.loop-r-preserved
 loop-r-preserved c = tallied_more c.args.k c.args.floats.now c.args.x c.args.total c.args.n c.args.words.now c.requires c.starts_w-starts.result c.starts_w-starts.ensures c.loop-r.words c.loop-r.r c.loop-r-test.true c.loop-r.invariant c.nearest_w-order.result c.nearest_w-order.ensures c.notes_w-notes.result c.notes_w-notes.ensures c.if-p-eq-UNSAID.s (elim c.if-p-eq-UNSAID.branch [ then-p-eq-UNSAID v ↦ not_said _ _ v.if-p-eq-UNSAID.true (v.s-is ∙ v.edge_spans-s.ensures) | else-p-eq-UNSAID v ↦ is_said _ _ v.if-p-eq-UNSAID.false (v.s-is ∙ v.said-s.ensures) ]) c.mark_edge.new.starts c.mark_edge.auto.starts c.mark_edge.ensures
 
-pub shape_of-words : goal.shape_of-words
-shape_of-words c = c.loop-r.invariant.long
-
 pub returns : goal.returns
 returns c = tallied_all c.args.k c.args.floats.now c.args.x c.args.total c.args.n c.args.words.now c.requires c.starts_w-starts.result c.starts_w-starts.ensures c.loop-r.words c.loop-r.r (omega arith) c.loop-r.invariant

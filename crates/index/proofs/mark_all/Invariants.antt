@@ -4,6 +4,3 @@ use Rattle.index.proofs.mark_all.Given as goal
 
 abbrev pub invariant-loop-r : goal.invariant-loop-r
 invariant-loop-r l = Tallied l.k l.floats l.x l.total l.n l.starts l.initial.words l.words l.r
-
-abbrev pub decreases-loop-r : goal.decreases-loop-r
-decreases-loop-r l = l.r

@@ -30,8 +30,5 @@ bounds-words-notes c = omega (arith, c.notes_w-notes.ensures, c.requires.ready.f
 pub loop-r-preserved : goal.loop-r-preserved
 loop-r-preserved c = noting_more c.args.k c.args.floats.now c.args.x c.args.total c.args.n c.args.words.now c.requires c.loop-r.words c.loop-r.r (omega arith) c.loop-r.invariant c.nearest_w-order.result c.nearest_w-order.ensures c.edge_spans.result c.edge_spans.ensures c.notes_w-notes.result c.notes_w-notes.ensures c.note.result c.note.ensures
 
-pub shape_of-words : goal.shape_of-words
-shape_of-words c = c.loop-r.invariant.only.long
-
 pub returns : goal.returns
 returns c = noting_all c.args.k c.args.floats.now c.args.x c.args.total c.args.n c.args.words.now c.requires c.loop-r.words c.loop-r.r (omega arith) c.loop-r.invariant

@@ -5,4 +5,4 @@ use Rattle.index.proofs.number_at.Goals as goal
 
 pub returns : goal.returns
 unfolding edge_at
-returns c = c.at32.ensures ∙ rw (c.edges_w.ensures, c.wide.ensures)
+returns c = c.at.ensures ∙ rw (c.edges_w.ensures)

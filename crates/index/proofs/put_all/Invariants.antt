@@ -6,9 +6,6 @@ use Rattle.index.proofs.put_all.Given as goal
 abbrev pub invariant-loop-r : goal.invariant-loop-r
 invariant-loop-r l = Stripped l.k l.floats l.x l.total l.n l.starts l.refs l.lo l.hi l.initial.words l.words l.r
 
-abbrev pub decreases-loop-r : goal.decreases-loop-r
-decreases-loop-r l = l.r
-
 abbrev pub invariant-loop-lo : goal.invariant-loop-lo
 invariant-loop-lo l = Scattered l.k l.floats l.x l.total l.n l.starts l.refs l.initial.words l.words l.lo l.lo l.n
 

@@ -2,8 +2,8 @@
 use Rattle.near.proofs.Ways.{met}
 use Rattle.near.proofs.cells_shared.Goals as goal
 
-pub returns-in-Nothing : goal.returns-in-Nothing
-returns-in-Nothing c = rw c.in-Nothing.is
+pub returns-in-None : goal.returns-in-None
+returns-in-None c = rw c.in-None.is
 
-pub returns-in-Cells : goal.returns-in-Cells
-returns-in-Cells c = met _ _ _ _ _ _ _ c.in-Cells.is c.larger.ensures c.larger-in-Cells.ensures c.smaller.ensures c.smaller-in-Cells.ensures
+pub returns-in-Some : goal.returns-in-Some
+returns-in-Some c = met _ _ _ _ _ _ _ c.in-Some.is c.max.ensures c.max-in-Some.ensures c.min.ensures c.min-in-Some.ensures

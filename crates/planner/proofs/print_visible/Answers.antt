@@ -8,17 +8,14 @@ use Rattle.planner.proofs.Lines.{lines_next, lines_end, lines_room}
 use native.Mathlib.Omega.{arith}
 use Rattle.planner.proofs.print_visible.Goals as goal
 
-pub loop-i-init : goal.loop-i-init
-loop-i-init c = (left_start _ _ _, omega arith, refl)
+pub loop-id-init : goal.loop-id-init
+loop-id-init c = (left_start _ _ _, refl)
 
 pub print_stored-j-requires : goal.print_stored-j-requires
-print_stored-j-requires c = (c.requires.points_few, omega (arith, left_place c.loop-i.invariant.0, lines_room c.args.places c.args.points.now c.args.polygons.now c.requires.points_few c.args.ids.now c.requires.ids_few, c.requires.at_few, c.requires.places_few), c.requires.places_few)
+print_stored-j-requires c = (c.requires.points_few, omega (arith, left_place c.loop-id.invariant.0, lines_room c.args.places c.args.points.now c.args.polygons.now c.requires.points_few c.args.ids.now c.requires.ids_few, c.requires.at_few, c.requires.places_few), c.requires.places_few)
 
-pub loop-i-preserved : goal.loop-i-preserved
-loop-i-preserved c = (left_more c.loop-i.invariant.0 (lines_of c.args.places c.args.points.now c.args.polygons.now (drop (c.loop-i.i + 1) c.args.ids.now)) (lines_next c.args.places c.args.points.now c.args.polygons.now c.args.ids.now c.loop-i.i (omega arith)) c.print_stored-j.ensures, omega arith, c.print_stored-j.auto.out ∙ c.loop-i.invariant.2)
-
-pub shape_of-out : goal.shape_of-out
-shape_of-out c = c.loop-i.invariant.2
+pub loop-id-preserved : goal.loop-id-preserved
+loop-id-preserved c = (left_more c.loop-id.invariant.0 (lines_of c.args.places c.args.points.now c.args.polygons.now (drop (c.loop-id.id-index + 1) c.args.ids.now)) (lines_next c.args.places c.args.points.now c.args.polygons.now c.args.ids.now c.loop-id.id-index (omega arith)) c.print_stored-j.ensures, c.print_stored-j.auto.out ∙ c.loop-id.invariant.1)
 
 pub returns : goal.returns
-returns c = left_done c.loop-i.invariant.0 (lines_end c.args.places c.args.points.now c.args.polygons.now c.args.ids.now c.loop-i.i (omega arith))
+returns c = left_done c.loop-id.invariant.0 (lines_end c.args.places c.args.points.now c.args.polygons.now c.args.ids.now c.loop-id.id-index (omega arith))

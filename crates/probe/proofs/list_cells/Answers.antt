@@ -14,13 +14,13 @@ pub overflow_add-n : goal.overflow_add-n
 overflow_add-n c = omega (arith, c.loop-q.invariant.few, left_few c.args.k c.args.start c.requires)
 
 pub loop-q-smaller : goal.loop-q-smaller
-loop-q-smaller c = omega (arith, (moves _ _ _ (sym c.advance-s.ensures ∙ c.in-Next.is)).fewer)
+loop-q-smaller c = omega (arith, (moves _ _ _ (sym c.advance.ensures ∙ c.in-Some.is)).fewer)
 
 pub loop-q-preserved : goal.loop-q-preserved
-loop-q-preserved c = next _ _ _ _ _ _ _ _ _ c.loop-q.invariant c.put32.ensures (c.low-c.ensures ∙ ap low c.cell_of.ensures) refl _ (sym c.advance-s.ensures ∙ c.in-Next.is)
+loop-q-preserved c = next _ _ _ _ _ _ _ _ _ c.loop-q.invariant c.put.ensures (c.low.ensures ∙ ap low c.cell_of.ensures) refl _ (sym c.advance.ensures ∙ c.in-Some.is)
 
-pub shape_of-out-in-Stop : goal.shape_of-out-in-Stop
-shape_of-out-in-Stop c = omega (arith, same_now _ _ _ _ _ _ _ _ _ c.loop-q.invariant c.put32.ensures (c.low-c.ensures ∙ ap low c.cell_of.ensures) refl)
+pub shape_of-out-in-None : goal.shape_of-out-in-None
+shape_of-out-in-None c = omega (arith, same_now _ _ _ _ _ _ _ _ _ c.loop-q.invariant c.put.ensures (c.low.ensures ∙ ap low c.cell_of.ensures) refl)
 
-pub returns-in-Stop : goal.returns-in-Stop
-returns-in-Stop c = record { value = end_count _ _ _ _ _ _ _ _ _ c.loop-q.invariant c.put32.ensures (c.low-c.ensures ∙ ap low c.cell_of.ensures) refl (sym c.advance-s.ensures ∙ c.in-Stop.is); out_after = end_out _ _ _ _ _ _ _ _ _ c.loop-q.invariant c.put32.ensures (c.low-c.ensures ∙ ap low c.cell_of.ensures) refl (sym c.advance-s.ensures ∙ c.in-Stop.is) }
+pub returns-in-None : goal.returns-in-None
+returns-in-None c = record { value = end_count _ _ _ _ _ _ _ _ _ c.loop-q.invariant c.put.ensures (c.low.ensures ∙ ap low c.cell_of.ensures) refl (sym c.advance.ensures ∙ c.in-None.is); out_after = end_out _ _ _ _ _ _ _ _ _ c.loop-q.invariant c.put.ensures (c.low.ensures ∙ ap low c.cell_of.ensures) refl (sym c.advance.ensures ∙ c.in-None.is) }

@@ -2,6 +2,10 @@
 use Rattle.random.specs.Draws.{corner_by, angle_at}
 use Rattle.random.proofs.draw_corner.Goals as goal
 
-pub returns : goal.returns
+pub returns-clause-value : goal.returns-clause-value
 unfolding corner_by angle_at
-returns c = simp (c.add-at.ensures, c.mul.ensures, c.from_angle.ensures, c.nearest_u64_to_f64-2.ensures, c.nearest_u64_to_f64.ensures, c.next_f64-f.ensures)
+returns-clause-value c = simp (c.add.ensures, c.mul.ensures, c.from_angle.ensures, c.next_f64.ensures.value, c.nearest_u64_to_f64-2.ensures, c.nearest_u64_to_f64.ensures)
+
+pub returns-clause-after : goal.returns-clause-after
+unfolding corner_by
+returns-clause-after c = c.next_f64.ensures.after

@@ -9,20 +9,8 @@ loop-i-init c = answered_none c.args.k c.args.view c.args.x c.args.n c.args.floa
 pub cast_one-requires : goal.cast_one-requires
 cast_one-requires c = answer_place c.args.k c.args.view c.args.x c.args.n c.args.floats.now c.args.words.now c.requires c.loop-i.floats c.loop-i.words c.loop-i.i c.loop-i.invariant (omega arith)
 
-pub overflow_add-i : goal.overflow_add-i
-overflow_add-i c = omega (arith, c.ranges)
-
-pub loop-i-smaller : goal.loop-i-smaller
-loop-i-smaller c = omega arith
-
 pub loop-i-preserved : goal.loop-i-preserved
 loop-i-preserved c = answered_more c.args.k c.args.view c.args.x c.args.n c.args.floats.now c.args.words.now c.requires c.loop-i.floats c.loop-i.words c.loop-i.i c.loop-i.invariant c.loop-i-test.true c.cast_one.new.floats c.cast_one.new.words c.cast_one.ensures
-
-pub shape_of-floats : goal.shape_of-floats
-shape_of-floats c = c.loop-i.invariant.floats.long
-
-pub shape_of-words : goal.shape_of-words
-shape_of-words c = c.loop-i.invariant.words.long
 
 pub returns : goal.returns
 returns c = answered_all c.args.k c.args.view c.args.x c.args.n c.args.floats.now c.args.words.now c.requires c.loop-i.floats c.loop-i.words c.loop-i.i c.loop-i.invariant (omega arith)

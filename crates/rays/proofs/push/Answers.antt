@@ -2,9 +2,11 @@
 use Rattle.rays.proofs.Emitting.{emits_one, emits_full}
 use native.Mathlib.Omega.{arith}
 use Rattle.rays.proofs.push.Goals as goal
-
-pub returns-then-n-wide : goal.returns-then-n-wide
-returns-then-n-wide c = emits_one c.args.k c.args.n c.args.s c.args.floats.now c.args.words.now (omega (arith, c.wide.ensures)) c.put_sample.new.floats c.put_sample.new.words c.put_sample.ensures
+use Rattle.rays.proofs.push.Goals.{then-n-k, else-n-k}
 
 pub returns : goal.returns
-returns c = emits_full c.args.k c.args.n c.args.s c.args.floats.now c.args.words.now (omega (arith, c.wide.ensures))
+returns c =
+    elim c.if-n-k.branch [
+      | then-n-k w ↦ rw (w.floats-is, w.words-is) (emits_one c.args.k c.args.n c.args.s c.args.floats.now c.args.words.now (omega (arith)) w.put_sample.new.floats w.put_sample.new.words w.put_sample.ensures)
+      | else-n-k w ↦ rw (w.floats-is, w.words-is) (emits_full c.args.k c.args.n c.args.s c.args.floats.now c.args.words.now (omega (arith)))
+    ]

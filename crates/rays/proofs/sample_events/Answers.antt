@@ -9,20 +9,8 @@ loop-i-init c = before_none c.args.k c.args.view c.args.events c.args.floats.now
 pub event_rays-n-requires : goal.event_rays-n-requires
 event_rays-n-requires c = before_room c.args.k c.args.view c.args.events c.args.floats.now c.args.words.now c.requires c.loop-i.floats c.loop-i.words c.loop-i.n c.loop-i.i c.loop-i.invariant (omega (arith, c.ranges)) (omega arith)
 
-pub overflow_add-i : goal.overflow_add-i
-overflow_add-i c = omega (arith, c.ranges)
-
-pub loop-i-smaller : goal.loop-i-smaller
-loop-i-smaller c = omega arith
-
 pub loop-i-preserved : goal.loop-i-preserved
 loop-i-preserved c = before_more c.args.k c.args.view c.args.events c.args.floats.now c.args.words.now c.requires c.loop-i.floats c.loop-i.words c.loop-i.n c.loop-i.i c.loop-i.invariant (omega arith) c.event_rays-n.new.floats c.event_rays-n.new.words c.event_rays-n.result c.event_rays-n.ensures
-
-pub shape_of-floats : goal.shape_of-floats
-shape_of-floats c = c.loop-i.invariant.done.floats.long
-
-pub shape_of-words : goal.shape_of-words
-shape_of-words c = c.loop-i.invariant.done.words.long
 
 pub returns : goal.returns
 returns c = before_all c.args.k c.args.view c.args.events c.args.floats.now c.args.words.now c.requires c.loop-i.floats c.loop-i.words c.loop-i.n c.loop-i.i c.loop-i.invariant (omega arith)

@@ -1,8 +1,8 @@
 -- `reach`: the distance of the hit, or the range.
 use Rattle.refining.proofs.reach.Goals as goal
 
-pub returns-in-Hit : goal.returns-in-Hit
-returns-in-Hit c = cc
+pub returns-in-Some : goal.returns-in-Some
+returns-in-Some c = cc
 
-pub returns-in-Miss : goal.returns-in-Miss
-returns-in-Miss c = cc
+pub returns-in-None : goal.returns-in-None
+returns-in-None c = cc

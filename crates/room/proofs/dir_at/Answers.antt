@@ -4,4 +4,4 @@ use Rattle.room.proofs.dir_at.Goals as goal
 
 pub returns : goal.returns
 unfolding dir_at
-returns c = simp (c.at64-2.ensures, c.at64.ensures, c.wide.ensures, c.dirs_f.ensures)
+returns c = simp (c.at-2.ensures, c.at.ensures, c.dirs_f.ensures)

@@ -4,4 +4,4 @@ use Rattle.room.proofs.edge_at.Goals as goal
 
 pub returns : goal.returns
 unfolding edge_at
-returns c = simp (c.at64-7.ensures, c.at64-6.ensures, c.at32.ensures, c.edges_w.ensures, c.at64-5.ensures, c.at64-4.ensures, c.at64-3.ensures, c.at64-2.ensures, c.at64.ensures, c.edges_f.ensures, c.wide-n.ensures)
+returns c = simp (c.at-8.ensures, c.at-7.ensures, c.at-6.ensures, c.at-5.ensures, c.at-4.ensures, c.at-3.ensures, c.at-2.ensures, c.at.ensures, c.edges_w.ensures, c.edges_f.ensures)

@@ -4,4 +4,4 @@ use Rattle.room.proofs.event_at.Goals as goal
 
 pub returns : goal.returns
 unfolding event_at
-returns c = simp (c.at32-2.ensures, c.at32.ensures, c.at64.ensures, c.events_f.ensures, c.events_w.ensures, c.wide-n.ensures)
+returns c = simp (c.at-3.ensures, c.at-2.ensures, c.at.ensures, c.events_f.ensures, c.events_w.ensures)

@@ -4,4 +4,4 @@ use Rattle.room.proofs.merged_at.Goals as goal
 
 pub returns : goal.returns
 unfolding merged_at
-returns c = simp (c.at32-3.ensures, c.at32-2.ensures, c.at32.ensures, c.at64.ensures, c.merged_f.ensures, c.merged_w.ensures, c.wide-n.ensures)
+returns c = simp (c.at-4.ensures, c.at-3.ensures, c.at-2.ensures, c.at.ensures, c.merged_f.ensures, c.merged_w.ensures)

@@ -4,4 +4,4 @@ use Rattle.room.proofs.sample_at.Goals as goal
 
 pub returns : goal.returns
 unfolding sample_at
-returns c = simp (c.at32-4.ensures, c.at32-3.ensures, c.at64-2.ensures, c.samples_f.ensures, c.cast_from-hit.ensures, c.at32-2.ensures, c.at64.ensures, c.distances_f.ensures, c.at32.ensures, c.samples_w.ensures, c.wide-n.ensures)
+returns c = simp (c.at-6.ensures, c.at-5.ensures, c.at-4.ensures, c.at-3.ensures, c.at-2.ensures, c.at.ensures, c.samples_f.ensures, c.cast_from-hit.ensures, c.distances_f.ensures, c.samples_w.ensures)

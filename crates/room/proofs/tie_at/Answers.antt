@@ -4,4 +4,4 @@ use Rattle.room.proofs.tie_at.Goals as goal
 
 pub returns : goal.returns
 unfolding tie_at
-returns c = simp (c.at32.ensures, c.wide.ensures, c.samples_w.ensures)
+returns c = simp (c.at.ensures, c.samples_w.ensures)

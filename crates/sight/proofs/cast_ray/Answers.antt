@@ -5,10 +5,10 @@ use mathlib.Core.Path.{sym, ◌∙◌}
 use Rattle.sight.proofs.cast_ray.Goals as goal
 
 pub look_along-requires : goal.look_along-requires
-look_along-requires c = (start_in _ _ _ _ _ _ (sym c.traverse_ray-s.ensures ∙ c.in-From.is)).on_grid
+look_along-requires c = (start_in _ _ _ _ _ _ (sym c.traverse_ray.ensures ∙ c.in-Some.is)).on_grid
 
-pub returns-in-From : goal.returns-in-From
-returns-in-From c = cast_from _ _ _ _ _ _ _ _ _ _ _ _ _ _ (sym c.traverse_ray-s.ensures ∙ c.in-From.is) c.none-recent.ensures c.look_along.ensures
+pub returns-in-Some : goal.returns-in-Some
+returns-in-Some c = cast_from _ _ _ _ _ _ _ _ _ _ _ _ _ _ (sym c.traverse_ray.ensures ∙ c.in-Some.is) c.none-recent.ensures c.look_along.ensures
 
-pub returns-in-Miss : goal.returns-in-Miss
-returns-in-Miss c = cast_miss _ _ _ _ _ _ _ _ _ _ (sym c.traverse_ray-s.ensures ∙ c.in-Miss.is)
+pub returns-in-None : goal.returns-in-None
+returns-in-None c = cast_miss _ _ _ _ _ _ _ _ _ _ (sym c.traverse_ray.ensures ∙ c.in-None.is)

@@ -3,10 +3,10 @@ use Rattle.sight.specs.Casting.{edge_number}
 use native.Mathlib.Omega.{arith}
 use Rattle.sight.proofs.edge_number.Goals as goal
 
-pub returns-then-i-wide : goal.returns-then-i-wide
+pub returns-then-i-first : goal.returns-then-i-first
 unfolding edge_number
-returns-then-i-wide c = omega (arith, c.wide.ensures)
+returns-then-i-first c = omega arith
 
 pub returns : goal.returns
 unfolding edge_number
-returns c = omega (arith, c.wide.ensures)
+returns c = omega arith

@@ -2,15 +2,21 @@
 use Rattle.sight.specs.Holding.{higher_of, highest}
 use Rattle.lists.proofs.Folds.{filtered_next, filtered_end}
 use mathlib.Core.Path.{refl, sym, ◌∙◌}
+use Prim.Native.Nat.{◌<◌, ◌≤◌}
+use lib.ListN.{length}
 use native.Mathlib.Omega.{arith}
 use Rattle.sight.proofs.highest_of.Goals as goal
 
-pub loop-i-init : goal.loop-i-init
+pub loop-id-init : goal.loop-id-init
 unfolding highest
-loop-i-init c = (omega arith, refl)
+loop-id-init c = refl
 
-pub loop-i-preserved : goal.loop-i-preserved
-loop-i-preserved c = (omega arith, rw c.with_id-w.ensures (sym (filtered_next higher_of _ _ _ 0 _ c.loop-i-test.true) ∙ c.loop-i.invariant.1))
+pub loop-id-preserved : goal.loop-id-preserved
+loop-id-preserved c =
+    let h : c.loop-id.id-index < length c.args.ids.now = omega arith in
+    rw c.with_id-w.ensures (sym (filtered_next higher_of _ _ _ 0 _ h) ∙ c.loop-id.invariant)
 
 pub returns : goal.returns
-returns c = sym (filtered_end higher_of _ _ _ _ c.loop-i-test.false) ∙ c.loop-i.invariant.1
+returns c =
+    let h : length c.args.ids.now ≤ c.loop-id.id-index = omega arith in
+    sym (filtered_end higher_of _ _ _ _ h) ∙ c.loop-id.invariant

@@ -5,11 +5,11 @@ use Rattle.sight.proofs.level.Goals as goal
 pub returns-then-mode-eq0 : goal.returns-then-mode-eq0
 returns-then-mode-eq0 c = level_rust c.args.mode c.args.best c.args.e c.if-mode-eq0.true
 
-pub returns-then-e-f : goal.returns-then-e-f
-returns-then-e-f c = level_lower c.args.mode c.args.best c.args.e c.if-mode-eq0.false _ _ c.in-Hit.is c.if-e-f.true
+pub returns-in-Some : goal.returns-in-Some
+returns-in-Some c = level_lower c.args.mode c.args.best c.args.e c.if-mode-eq0.false _ c.in-Some.is c.if-e-hit.true
 
-pub returns-in-Hit : goal.returns-in-Hit
-returns-in-Hit c = level_not c.args.mode c.args.best c.args.e c.if-mode-eq0.false _ _ c.in-Hit.is c.if-e-f.false
+pub returns-in_default : goal.returns-in_default
+returns-in_default c = level_not c.args.mode c.args.best c.args.e c.if-mode-eq0.false _ c.in-Some.is c.if-e-hit.false
 
-pub returns-in-Miss : goal.returns-in-Miss
-returns-in-Miss c = level_miss c.args.mode c.args.best c.args.e c.if-mode-eq0.false c.in-Miss.is
+pub returns-in_default-2 : goal.returns-in_default-2
+returns-in_default-2 c = level_miss c.args.mode c.args.best c.args.e c.if-mode-eq0.false c.in_default.is

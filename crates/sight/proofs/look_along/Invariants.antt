@@ -5,7 +5,7 @@ use Rattle.walk.specs.Steps.{left}
 use Rattle.sight.proofs.look_along.Given as goal
 
 abbrev pub invariant-loop-s : goal.invariant-loop-s
-invariant-loop-s l = Left (looker (nearer_of l.mode) l.ray l.points l.boxes l.polygons l.starts l.items) l.k l.initial.p l.p l.initial.s l.s l.cells
+invariant-loop-s l = Left (looker (nearer_of l.mode) l.ray l.tables.points.now l.tables.boxes.now l.tables.polygons.now l.tables.starts.now l.tables.items.now) l.k l.initial.p l.p l.initial.s l.s l.cells
 
 abbrev pub decreases-loop-s : goal.decreases-loop-s
 decreases-loop-s l = left l.k l.p

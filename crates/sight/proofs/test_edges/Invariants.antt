@@ -3,11 +3,7 @@ use Rattle.sight.specs.Casting.{nearer_of, edges_up_to}
 use Rattle.geom.specs.Ring.{corner_before}
 use Rattle.geom.specs.Box.{corner_of}
 use mathlib.Core.Path.{◌≡◌}
-use Prim.Native.Nat.{◌≤◌, ◌-◌}
 use Rattle.sight.proofs.test_edges.Given as goal
 
 abbrev pub invariant-loop-k : goal.invariant-loop-k
-invariant-loop-k l = (l.k ≤ l.n) × (l.best ≡ edges_up_to (nearer_of l.mode) l.ray l.ring l.first l.initial.best l.k) × (l.prev ≡ corner_before l.n l.k) × (l.a ≡ corner_of l.ring l.prev)
-
-abbrev pub decreases-loop-k : goal.decreases-loop-k
-decreases-loop-k l = l.n - l.k
+invariant-loop-k l = (l.best ≡ edges_up_to (nearer_of l.mode) l.ray l.ring l.first l.initial.best l.k) × (l.prev ≡ corner_before l.n l.k) × (l.a ≡ corner_of l.ring l.prev)

@@ -2,11 +2,7 @@
 use mathlib.Core.Path.{◌≡◌}
 use Rattle.site.specs.Soundness.{owned}
 use Rattle.lists.specs.Members.{all_to}
-use Prim.Native.Nat.{◌≤◌, ◌-◌}
 use Rattle.site.proofs.all_owned.Given as goal
 
 abbrev pub invariant-loop-i : goal.invariant-loop-i
-invariant-loop-i l = (l.i ≤ l.end) × (l.ok ≡ all_to (owned l.n l.polygons l.owners) l.i)
-
-abbrev pub decreases-loop-i : goal.decreases-loop-i
-decreases-loop-i l = l.end - l.i
+invariant-loop-i l = l.ok ≡ all_to (owned l.n l.polygons l.owners) l.i

@@ -4,4 +4,4 @@ use Rattle.site.proofs.is_owned.Goals as goal
 
 pub returns : goal.returns
 unfolding owned
-returns c = simp (c.wide-len.ensures, c.len_of.ensures, c.wide-first.ensures, c.first_of.ensures, c.owner_at-k.ensures)
+returns c = simp (c.len_of-len.ensures, c.first_of-first.ensures, c.owner_at-k.ensures)

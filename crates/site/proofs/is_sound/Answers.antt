@@ -1,56 +1,33 @@
 -- `site::is_sound` meets its contract. Assumes nothing.
-use mathlib.Core.Path.{sym, ◌∙◌}
-use Rattle.site.proofs.SoundLaws.{long}
-use Rattle.site.proofs.Ways.{no_tables, no_counts, no_head, no_cell, no_cells, no_points, no_parts, no_own, no_owned, no_boxes, no_starts, by_items}
+use mathlib.Core.Bool.{true}
+use mathlib.Core.Path.{◌≡◌}
+use native.Mathlib.Omega.{arith}
+use Rattle.std.proofs.lemmas.Bool.Decides.{nat_tests}
+use Rattle.site.specs.Tables.{tables_of}
+use Rattle.site.specs.Soundness.{tables_long, parts_inside, sound_of}
+use Rattle.site.proofs.SoundLaws.{long, parts_in}
 use Rattle.site.proofs.is_sound.Goals as goal
 
-pub returns-then-not-tables_long : goal.returns-then-not-tables_long
-returns-then-not-tables_long c = sym (no_tables _ _ (sym c.tables_long.ensures ∙ c.if-not-tables_long.true))
-
-pub returns-then-not-counts_within : goal.returns-then-not-counts_within
-returns-then-not-counts_within c = sym (no_counts _ _ (sym c.counts_within.ensures ∙ c.if-not-counts_within.true))
-
-pub returns-then-not-head_in_domain : goal.returns-then-not-head_in_domain
-returns-then-not-head_in_domain c = sym (no_head _ _ (sym c.head_in_domain.ensures ∙ c.if-not-head_in_domain.true))
-
-pub returns-then-not-cell_right : goal.returns-then-not-cell_right
-returns-then-not-cell_right c = sym (no_cell _ _ (sym c.cell_right.ensures ∙ c.if-not-cell_right.true))
-
-pub returns-then-not-cells_within : goal.returns-then-not-cells_within
-returns-then-not-cells_within c = sym (no_cells _ _ (sym c.cells_within.ensures ∙ c.if-not-cells_within.true))
-
-pub returns-then-not-points_in_domain : goal.returns-then-not-points_in_domain
-returns-then-not-points_in_domain c = sym (no_points _ _ (sym c.points_in_domain.ensures ∙ c.if-not-points_in_domain.true))
-
-pub returns-then-not-parts_inside : goal.returns-then-not-parts_inside
-returns-then-not-parts_inside c = sym (no_parts _ _ (sym c.parts_inside.ensures ∙ c.if-not-parts_inside.true))
-
-pub returns-then-not-all_own : goal.returns-then-not-all_own
-returns-then-not-all_own c = sym (no_own _ _ (sym c.all_own.ensures ∙ c.if-not-all_own.true))
-
-pub returns-then-not-all_owned : goal.returns-then-not-all_owned
-returns-then-not-all_owned c = sym (no_owned _ _ (sym c.all_owned.ensures ∙ c.if-not-all_owned.true))
-
-pub returns-then-not-boxes_right : goal.returns-then-not-boxes_right
-returns-then-not-boxes_right c = sym (no_boxes _ _ (sym c.boxes_right.ensures ∙ c.if-not-boxes_right.true))
+pub all_own-requires : goal.all_own-requires
+all_own-requires c =
+    let t : tables_long c.args.site (tables_of c.args.t) ≡ true = grind arith in
+    let p : parts_inside c.args.site.polygons c.args.site.points c.args.t.polygons.now ≡ true = grind arith in
+    λ k h. omega (arith, (long _ _ t).owners, parts_in _ _ _ p k h)
 
 pub starts_right-requires : goal.starts_right-requires
-starts_right-requires c = (long _ _ (sym c.tables_long.ensures ∙ c.if-not-tables_long.false)).starts
+starts_right-requires c =
+    let t : tables_long c.args.site (tables_of c.args.t) ≡ true = grind arith in
+    (long _ _ t).starts
 
-pub returns-then-not-starts_right : goal.returns-then-not-starts_right
-returns-then-not-starts_right c = sym (no_starts _ _ (sym c.starts_right.ensures ∙ c.if-not-starts_right.true))
+pub items_right-requires : goal.items_right-requires
+items_right-requires c =
+    let t : tables_long c.args.site (tables_of c.args.t) ≡ true = grind arith in
+    (long _ _ t).items
 
-pub returns : goal.returns
-returns c =
-    c.items_right.ensures ∙ sym (by_items _ _
-    (sym c.tables_long.ensures ∙ c.if-not-tables_long.false)
-    (sym c.counts_within.ensures ∙ c.if-not-counts_within.false)
-    (sym c.head_in_domain.ensures ∙ c.if-not-head_in_domain.false)
-    (sym c.points_in_domain.ensures ∙ c.if-not-points_in_domain.false)
-    (sym c.cell_right.ensures ∙ c.if-not-cell_right.false)
-    (sym c.boxes_right.ensures ∙ c.if-not-boxes_right.false)
-    (sym c.cells_within.ensures ∙ c.if-not-cells_within.false)
-    (sym c.starts_right.ensures ∙ c.if-not-starts_right.false)
-    (sym c.parts_inside.ensures ∙ c.if-not-parts_inside.false)
-    (sym c.all_owned.ensures ∙ c.if-not-all_owned.false)
-    (sym c.all_own.ensures ∙ c.if-not-all_own.false))
+pub returns-then-starts_right : goal.returns-then-starts_right
+unfolding sound_of
+returns-then-starts_right c = grind (arith, nat_tests)
+
+pub returns-else-starts_right : goal.returns-else-starts_right
+unfolding sound_of
+returns-else-starts_right c = grind (arith, nat_tests)

@@ -1,27 +1,25 @@
 -- `site::never_fall` meets its contract. Assumes nothing.
-use Prim.Native.Nat.{ℕ, ◌+◌, ◌-◌}
-use mathlib.Core.Path.{◌≡◌, refl, ap, ◌∙◌}
-use native.Mathlib.Nat.{le_antisymm}
+use mathlib.Core.Path.{◌≡◌, ap}
+use Prim.Native.Nat.{◌+◌, ◌-◌}
 use native.Mathlib.Omega.{arith}
-use Rattle.site.specs.Tables.{start_at}
+use borrow.Author.Rules.{rules}
+use lib.ListN.{length}
+use Rattle.std.specs.Slice.Iter.{windows_size, windows_rest}
+use Rattle.std.proofs.lemmas.Iterator.{window_more}
 use Rattle.site.specs.Soundness.{never_fall}
 use Rattle.site.proofs.Falling.{fall_step}
 use Rattle.site.proofs.never_fall.Goals as goal
 
-pub loop-c-init : goal.loop-c-init
+pub loop-pair-init : goal.loop-pair-init
 unfolding never_fall
-loop-c-init c = (omega arith, omega arith, c.start_at-last.ensures, refl)
+loop-pair-init c =
+    let size : windows_size c.into_iter-pair-iterator.result ≡ 2 = search rules in
+    let rest : windows_rest c.into_iter-pair-iterator.result ≡ c.args.starts.now = search rules in
+    let none : length c.args.starts.now - length (windows_rest c.into_iter-pair-iterator.result) ≡ 0 = omega (arith, ap length rest) in
+    (size, omega (arith, ap length rest), omega arith, rw none rest, rw none)
 
-pub overflow_add-c : goal.overflow_add-c
-overflow_add-c c = omega arith
-
-pub loop-c-smaller : goal.loop-c-smaller
-loop-c-smaller c = omega arith
-
-pub loop-c-preserved : goal.loop-c-preserved
-loop-c-preserved c =
-    let e : c.loop-c.c ≡ c.loop-c.c + 1 - 1 = omega arith in
-    (omega arith, omega arith, c.start_at-next.ensures ∙ ap (start_at c.args.starts.now) e, fall_step _ _ _ _ _ c.loop-c.invariant.0 c.loop-c.invariant.2 c.start_at-next.ensures c.loop-c.invariant.3)
-
-pub returns : goal.returns
-returns c = c.loop-c.invariant.3 ∙ ap (λ (n : ℕ). never_fall n c.args.starts.now) (le_antisymm c.loop-c.invariant.1 (omega arith))
+pub loop-pair-preserved : goal.loop-pair-preserved
+loop-pair-preserved c =
+    let h = window_more c.args.starts.now c.loop-pair.pair-iterator c.next.new.self _ _ c.in-Some.is c.next.ensures.steps (search rules) (search rules) c.loop-pair.invariant.3 in
+    let n : length c.args.starts.now - length (windows_rest c.next.new.self) ≡ length c.args.starts.now - length (windows_rest c.loop-pair.pair-iterator) + 1 = omega arith in
+    (search rules, omega arith, omega arith, h.1, fall_step c.args.starts.now c.in-Some.pair.now _ _ c.loop-pair.ok n (h.3 0 0 (search rules)) (h.3 1 0 (search rules)) c.loop-pair.invariant.4)

@@ -3,11 +3,8 @@ use mathlib.Core.Path.{◌≡◌}
 use Rattle.site.specs.Tables.{first_of, len_of}
 use Rattle.lists.specs.Members.{all_to}
 use lib.Dec.{leb}
-use Prim.Native.Nat.{◌+◌, ◌≤◌, ◌-◌}
+use Prim.Native.Nat.{◌+◌}
 use Rattle.site.proofs.parts_inside.Given as goal
 
 abbrev pub invariant-loop-k : goal.invariant-loop-k
-invariant-loop-k l = (l.k ≤ l.n) × (l.ok ≡ all_to (λ j. leb (first_of l.polygons j + len_of l.polygons j) l.m) l.k)
-
-abbrev pub decreases-loop-k : goal.decreases-loop-k
-decreases-loop-k l = l.n - l.k
+invariant-loop-k l = l.ok ≡ all_to (λ j. leb (first_of l.polygons j + len_of l.polygons j) l.m) l.k

@@ -9,12 +9,6 @@ loop-i-init c = arc_none c.args.view c.args.angle c.args.gap c.args.steps c.args
 pub push-t-requires : goal.push-t-requires
 push-t-requires c = omega (arith, c.loop-i.invariant.counts.within, c.loop-i.invariant.long)
 
-pub overflow_add-i : goal.overflow_add-i
-overflow_add-i c = omega (arith, c.loop-i-test.true, c.ranges)
-
-pub loop-i-smaller : goal.loop-i-smaller
-loop-i-smaller c = omega (arith, c.loop-i-test.true)
-
 pub loop-i-preserved : goal.loop-i-preserved
 loop-i-preserved c = arc_more c.args.view c.args.angle c.args.gap c.args.steps c.args.pts.now c.args.s c.loop-i.pts c.loop-i.t c.loop-i.i c.loop-i.invariant c.loop-i-test.true _ _ c.arc_point.ensures c.push-t.ensures.result_after c.push-t.auto.pts c.push-t.ensures.pushed
 

@@ -38,4 +38,4 @@ pub shape_of-marks : goal.shape_of-marks
 shape_of-marks c = c.fill_gap.auto.marks
 
 pub returns : goal.returns
-returns c = record { result_after = between_gap _ _ _ _ _ _ c.is_pair.ensures c.if-is_pair.false (gap_front c.args.k c.args.x c.args.floats.now c.args.words.now c.args.view c.args.points.now c.args.polygons.now c.args.owners.now c.args.step c.args.a c.args.b _ c.seen_w-w.ensures c.fill_gap.ensures.result_after); done = (c.fill_gap.ensures.done, only_refl _ _ _) }
+returns c = record { result_after = between_gap _ _ _ _ _ _ c.is_pair.ensures c.if-is_pair.false (gap_front c.args.k c.args.x c.args.floats.now c.args.words.now c.args.view c.args.tables.now.points.now c.args.tables.now.polygons.now c.args.tables.now.owners.now c.args.step c.args.a c.args.b _ c.seen_w-w.ensures c.fill_gap.ensures.result_after); done = (c.fill_gap.ensures.done, only_refl _ _ _) }

@@ -7,16 +7,16 @@ use mathlib.Core.Path.{ap, ◌∙◌}
 use Rattle.view.proofs.clear.Goals as goal
 
 pub shape_of-floats : goal.shape_of-floats
-shape_of-floats c = c.clear64.auto.s
+shape_of-floats c = c.clear.auto.s
 
 pub shape_of-words : goal.shape_of-words
-shape_of-words c = c.clear32.auto.s
+shape_of-words c = c.clear-2.auto.s
 
 pub shape_of-outline : goal.shape_of-outline
-shape_of-outline c = c.clear_from64.auto.s
+shape_of-outline c = c.clear_from.auto.s
 
 pub shape_of-visible : goal.shape_of-visible
-shape_of-visible c = c.clear_from32.auto.s
+shape_of-visible c = c.clear_from-2.auto.s
 
 pub returns : goal.returns
-returns c = record { floats = c.clear64.ensures; words = c.clear32.ensures; outline = c.clear_from64.ensures ∙ ap (λ (n : ℕ). take (2 * n) c.args.outline.now ++ replicate (length c.args.outline.now - 2 * n) zero_f) c.points_in.ensures; visible = c.clear_from32.ensures ∙ ap (λ (n : ℕ). take n c.args.visible.now ++ replicate (length c.args.visible.now - n) 0) c.ids_in.ensures }
+returns c = record { floats = c.clear.ensures; words = c.clear-2.ensures; outline = c.clear_from.ensures ∙ ap (λ (n : ℕ). take (2 * n) c.args.outline.now ++ replicate (length c.args.outline.now - 2 * n) zero_f) c.points_in.ensures; visible = c.clear_from-2.ensures ∙ ap (λ (n : ℕ). take n c.args.visible.now ++ replicate (length c.args.visible.now - n) 0) c.ids_in.ensures }

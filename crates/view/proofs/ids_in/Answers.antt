@@ -2,10 +2,10 @@
 use Rattle.stages.specs.Shows.{ids_in}
 use Rattle.view.proofs.ids_in.Goals as goal
 
-pub returns-in-Seen : goal.returns-in-Seen
+pub returns-in-Ok : goal.returns-in-Ok
 unfolding ids_in
-returns-in-Seen c = rw c.in-Seen.is
+returns-in-Ok c = rw c.in-Ok.is
 
-pub returns-in-Refused : goal.returns-in-Refused
+pub returns-in-Err : goal.returns-in-Err
 unfolding ids_in
-returns-in-Refused c = rw c.in-Refused.is
+returns-in-Err c = rw c.in-Err.is

@@ -7,8 +7,8 @@ use Rattle.view.proofs.plan_of.Goals as goal
 pub returns-then-is_empty : goal.returns-then-is_empty
 returns-then-is_empty c = plan_empty _ _ _ _ _ _ _ (sym (c.is_empty.ensures ∙ ap is_empty c.view_of.ensures) ∙ c.if-is_empty.true)
 
-pub returns-in-Id : goal.returns-in-Id
-returns-in-Id c = plan_inside _ _ _ _ _ _ _ (sym (c.is_empty.ensures ∙ ap is_empty c.view_of.ensures) ∙ c.if-is_empty.false) c.polygon_at.ensures c.in-Id.is
+pub returns-in-Some : goal.returns-in-Some
+returns-in-Some c = plan_inside _ _ _ _ _ _ _ (sym (c.is_empty.ensures ∙ ap is_empty c.view_of.ensures) ∙ c.if-is_empty.false) c.polygon_at.ensures c.in-Some.is
 
-pub returns-in-Nobody : goal.returns-in-Nobody
-returns-in-Nobody c = plan_query _ _ _ _ _ _ _ (sym (c.is_empty.ensures ∙ ap is_empty c.view_of.ensures) ∙ c.if-is_empty.false) c.polygon_at.ensures c.in-Nobody.is c.aabb.ensures
+pub returns-in-None : goal.returns-in-None
+returns-in-None c = plan_query _ _ _ _ _ _ _ (sym (c.is_empty.ensures ∙ ap is_empty c.view_of.ensures) ∙ c.if-is_empty.false) c.polygon_at.ensures c.in-None.is c.aabb.ensures

@@ -1,7 +1,6 @@
--- `admit`: 6, then 1, then 7, then 0. Assumes nothing.
+-- `admit`: 6, then 1, then 7. Assumes nothing.
+use Rattle.std.proofs.Common.{sym, ◌∙◌}
 use Rattle.visibility.proofs.Admitting.{admit_six, admit_one, admit_mode, admit_seven, admit_none}
-use native.Mathlib.Omega.{arith}
-use mathlib.Core.Path.{sym, ◌∙◌}
 use Rattle.visibility.proofs.admit.Goals as goal
 
 pub returns-then-not-is_sound : goal.returns-then-not-is_sound
@@ -13,8 +12,8 @@ returns-then-not-in_domain c = admit_one _ _ _ _ _ (sym c.is_sound.ensures ∙ c
 pub returns-then-mode-gt1 : goal.returns-then-mode-gt1
 returns-then-mode-gt1 c = admit_mode _ _ _ _ _ (sym c.is_sound.ensures ∙ c.if-not-is_sound.false) (sym c.in_domain.ensures ∙ c.if-not-in_domain.false) c.if-mode-gt1.true
 
-pub returns-then-marks-wide : goal.returns-then-marks-wide
-returns-then-marks-wide c = admit_seven _ _ _ _ _ (sym c.is_sound.ensures ∙ c.if-not-is_sound.false) (sym c.in_domain.ensures ∙ c.if-not-in_domain.false) c.if-mode-gt1.false (omega (arith, c.wide.ensures, c.if-marks-wide.true))
+pub returns-then-marks-scene : goal.returns-then-marks-scene
+returns-then-marks-scene c = admit_seven _ _ _ _ _ (sym c.is_sound.ensures ∙ c.if-not-is_sound.false) (sym c.in_domain.ensures ∙ c.if-not-in_domain.false) c.if-mode-gt1.false c.if-marks-scene.true
 
 pub returns : goal.returns
-returns c = admit_none _ _ _ _ _ (sym c.is_sound.ensures ∙ c.if-not-is_sound.false) (sym c.in_domain.ensures ∙ c.if-not-in_domain.false) c.if-mode-gt1.false (omega (arith, c.wide.ensures, c.if-marks-wide.false))
+returns c = admit_none _ _ _ _ _ (sym c.is_sound.ensures ∙ c.if-not-is_sound.false) (sym c.in_domain.ensures ∙ c.if-not-in_domain.false) c.if-mode-gt1.false c.if-marks-scene.false

@@ -7,16 +7,16 @@ pub returns-then-exit-k : goal.returns-then-exit-k
 unfolding step_of
 returns-then-exit-k c = simp (← c.exit_of-exit.ensures, c.if-exit-k.true)
 
-pub returns-in-At : goal.returns-in-At
-returns-in-At c = by_x c.args.k c.args.p c.exit_of-exit.result c.exit_of-exit.ensures c.if-exit-k.false c.moved.result _ c.if-p.true c.moved.ensures c.in-At.is
+pub returns-in_ok-col : goal.returns-in_ok-col
+returns-in_ok-col c = by_x c.args.k c.args.p c.exit_of-exit.result c.exit_of-exit.ensures c.if-exit-k.false c.moved.result _ c.if-p.true c.moved.ensures c.in_ok-col.was
 
-pub returns-in-Off : goal.returns-in-Off
+pub returns-in_err-col : goal.returns-in_err-col
 unfolding step_of
-returns-in-Off c = simp (← c.exit_of-exit.ensures, c.if-exit-k.false, c.if-p.true, ← c.moved.ensures, c.in-Off.is)
+returns-in_err-col c = simp (c.from_residual.ensures, ← c.exit_of-exit.ensures, c.if-exit-k.false, c.if-p.true, ← c.moved.ensures, c.in_err-col.was)
 
-pub returns-in-At-moved : goal.returns-in-At-moved
-returns-in-At-moved c = by_y c.args.k c.args.p c.exit_of-exit.result c.exit_of-exit.ensures c.if-exit-k.false c.moved-else-p.result _ c.if-p.false c.moved-else-p.ensures c.in-At-moved.is
+pub returns-in_ok-row : goal.returns-in_ok-row
+returns-in_ok-row c = by_y c.args.k c.args.p c.exit_of-exit.result c.exit_of-exit.ensures c.if-exit-k.false c.moved-else-p.result _ c.if-p.false c.moved-else-p.ensures c.in_ok-row.was
 
-pub returns-in-Off-moved : goal.returns-in-Off-moved
+pub returns-in_err-row : goal.returns-in_err-row
 unfolding step_of
-returns-in-Off-moved c = simp (← c.exit_of-exit.ensures, c.if-exit-k.false, c.if-p.false, ← c.moved-else-p.ensures, c.in-Off-moved.is)
+returns-in_err-row c = simp (c.from_residual-in_err-row.ensures, ← c.exit_of-exit.ensures, c.if-exit-k.false, c.if-p.false, ← c.moved-else-p.ensures, c.in_err-row.was)

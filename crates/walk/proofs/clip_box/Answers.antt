@@ -2,10 +2,10 @@
 use Rattle.walk.specs.Clipping.{clip_box_of}
 use Rattle.walk.proofs.clip_box.Goals as goal
 
-pub returns-in-Part : goal.returns-in-Part
+pub returns-in_err-t0 : goal.returns-in_err-t0
 unfolding clip_box_of
-returns-in-Part c = simp (← c.clip-s.ensures, c.in-Part.is, ← c.clip.ensures)
+returns-in_err-t0 c = simp (c.from_residual.ensures, ← c.clip.ensures, c.in_err-t0.was)
 
-pub returns-in-Nowhere : goal.returns-in-Nowhere
+pub returns : goal.returns
 unfolding clip_box_of
-returns-in-Nowhere c = simp (← c.clip-s.ensures, c.in-Nowhere.is)
+returns c = simp (← c.clip.ensures, c.in_ok-t0.was, ← c.clip-2.ensures)

@@ -1,24 +1,24 @@
 -- `walk::moved` meets its contract. Assumes nothing.
-use borrow.Author.Tests.{lt-ltb, le-ltb}
+use Rattle.std.proofs.Common.{lt-ltb, le-ltb}
 use Rattle.walk.specs.Steps.{moved_to}
 use Rattle.walk.proofs.moved.Goals as goal
 
-pub returns-then-i-count : goal.returns-then-i-count
+pub returns-in-Up : goal.returns-in-Up
 unfolding moved_to
-returns-then-i-count c = rw (c.in-Up.is, lt-ltb _ _ c.if-i-count.true)
+returns-in-Up c = rw (c.in-Up.is, lt-ltb _ _ c.if-i-count.true)
 
-pub returns-else-i-count : goal.returns-else-i-count
+pub returns-in-Down : goal.returns-in-Down
 unfolding moved_to
-returns-else-i-count c = rw (c.in-Up.is, le-ltb _ _ c.if-i-count.false)
+returns-in-Down c = rw (c.in-Down.is, lt-ltb _ _ c.if-i-gt0.true)
 
-pub returns-then-i-gt0 : goal.returns-then-i-gt0
+pub returns-in_default : goal.returns-in_default
 unfolding moved_to
-returns-then-i-gt0 c = rw (c.in-Down.is, lt-ltb _ _ c.if-i-gt0.true)
+returns-in_default c = rw (c.in-Up.is, le-ltb _ _ c.if-i-count.false)
 
-pub returns-else-i-gt0 : goal.returns-else-i-gt0
+pub returns-in_default-2 : goal.returns-in_default-2
 unfolding moved_to
-returns-else-i-gt0 c = rw (c.in-Down.is, le-ltb _ _ c.if-i-gt0.false)
+returns-in_default-2 c = rw (c.in-Down.is, le-ltb _ _ c.if-i-gt0.false)
 
-pub returns-in-Stay : goal.returns-in-Stay
+pub returns-in_default-3 : goal.returns-in_default-3
 unfolding moved_to
-returns-in-Stay c = rw c.in-Stay.is
+returns-in_default-3 c = rw c.in_default.is

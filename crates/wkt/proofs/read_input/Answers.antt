@@ -16,4 +16,4 @@ returns c =
     let k : c.points_in.result ≡ total (rings_of t) = c.points_in.ensures ∙ ap points_in c.read_text-a.ensures.read ∙ (counts t).1 in
     let n : c.polygons_in.result ≡ length (rings_of t) = c.polygons_in.ensures ∙ ap polygons_in c.read_text-a.ensures.read ∙ (counts t).0 in
     let r = cells c.args.pts.now c.args.lens.now _ _ t (2 * c.points_in.result) c.polygons_in.result (ap (λ (x : ℕ). 2 * x) k) n (search rules) (search rules) c.read_text-a.ensures.stored in
-    record { answer = c.read_text-a.ensures.read; points = c.clear_from64.ensures ∙ r.0; lengths_in = c.clear_from32.ensures ∙ r.1 }
+    record { answer = c.read_text-a.ensures.read; points = c.clear_from.ensures ∙ r.0; lengths_in = c.clear_from-2.ensures ∙ r.1 }

@@ -26,4 +26,4 @@ put_digits-requires c = let q = whole_low c.args.places c.args.x c.scaled-q.resu
 pub returns : goal.returns
 returns c =
     say (shown_is c.args.places c.args.x c.scaled-q.result c.ten_to-p.result c.is_minus.result c.scaled-q.ensures c.ten_to-p.ensures c.is_minus.ensures)
-    (then c.put_minus-i.ensures (then c.put_whole-j.ensures (then (byte _ c.put_whole-j.result 46 _ _ c.put8.ensures refl) c.put_digits.ensures)))
+    (then c.put_minus-i.ensures (then c.put_whole-j.ensures (then (byte _ c.put_whole-j.result 46 _ _ c.put.ensures refl) c.put_digits.ensures)))

@@ -12,4 +12,4 @@ pub print_number-requires : goal.print_number-requires
 print_number-requires c = (c.requires.0, omega (arith, number_length c.args.places c.args.x, c.requires.0, c.requires.1))
 
 pub returns : goal.returns
-returns c = then c.print_number-i.ensures (then (byte _ c.print_number-i.result 32 _ _ c.put8.ensures refl) c.print_number.ensures)
+returns c = then c.print_number-i.ensures (then (byte _ c.print_number-i.result 32 _ _ c.put.ensures refl) c.print_number.ensures)

@@ -1,6 +1,5 @@
 -- `wkt_print::scaled_up` meets its contract. Assumes nothing.
 use Rattle.num.proofs.Whole.{yes}
-use Rattle.num.proofs.SqrtLaws.{number}
 use Prim.Native.Nat.{◌/◌, ◌%◌}
 use mathlib.Core.Path.{ap, ◌∙◌}
 use Prim.Native.Nat.{ℕ, ◌+◌, ◌-◌, ◌*◌, ◌^◌}
@@ -10,10 +9,7 @@ use lib.Ieee.{of_bits, to_bits, binary64}
 use lib.Ieee.Nearest.{closest}
 use native.Mathlib.Nat.{mod-lt, zero-lt-suc}
 use Rattle.wkt_print.proofs.scaled_up.Goals as goal
-
-pub float_to_bits-b : goal.float_to_bits-b
-unfolding of_bits
-float_to_bits-b c = number c.args.x c.if-x.true
+use Rattle.wkt_print.proofs.scaled_up.Goals.{else-x-via-then-x+else-x-2, else-x-via-else-x}
 
 pub rounded-requires : goal.rounded-requires
 rounded-requires c = (omega (arith, mod-lt (to_bits binary64 c.args.x) (zero-lt-suc 4503599627370495)), rw c.ten_to-c.ensures (ten_small c.args.places c.requires.0), omega arith)
@@ -34,10 +30,6 @@ pub returns-then-x-2 : goal.returns-then-x-2
 unfolding of_bits
 returns-then-x-2 c = c.rounded-then-x-2.ensures ∙ ap (λ (y : ℕ). closest ((to_bits binary64 c.args.x % 4503599627370496 + 4503599627370496) * y) (2 ^ (1075 - to_bits binary64 c.args.x / 4503599627370496))) c.ten_to-c.ensures ∙ (by_high c.args.places c.args.x (yes c.well_formed.0.1) c.if-x.true c.if-x-2.true c.if-f-eq0.false).1
 
-pub returns-then-x : goal.returns-then-x
-unfolding of_bits
-returns-then-x c = scaled_large _ _ c.if-x.true c.if-x-2.false
-
 pub returns : goal.returns
 unfolding of_bits
-returns c = scaled_zero _ _ c.if-x.false c.requires.1
+returns c = elim c.else-x.branch [ else-x-via-then-x+else-x-2 w ↦ scaled_large _ _ w.if-x.true w.if-x-2.false | else-x-via-else-x w ↦ scaled_zero _ _ w.if-x.false c.requires.1 ]

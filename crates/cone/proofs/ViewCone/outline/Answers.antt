@@ -14,9 +14,9 @@ overflow_mul-end c = omega (arith, c.draw-n.ensures.count, few_points c.loaded.r
 pub returns-then-room-end : goal.returns-then-room-end
 returns-then-room-end c =
     way_eight _ _ _ _ _ (sym c.in_domain.ensures ∙ c.if-not-in_domain.false) c.loaded.ensures c.load.ensures c.draw-n.ensures c.draw-n.auto.out
-    c.if-room-end.true c.clear64.ensures
+    c.if-room-end.true c.clear.ensures
 
 pub returns : goal.returns
 returns c =
     way_laid _ _ _ _ _ (sym c.in_domain.ensures ∙ c.if-not-in_domain.false) c.loaded.ensures c.load.ensures c.draw-n.ensures c.draw-n.auto.out
-    c.if-room-end.false c.clear_from64.ensures
+    c.if-room-end.false c.clear_from.ensures

@@ -1,12 +1,9 @@
 -- `hits`: n is the count of the first i rays. Assumes nothing.
 use mathlib.Core.Path.{◌≡◌}
-use Prim.Native.Nat.{◌≤◌, ◌-◌}
+use Prim.Native.Nat.{◌≤◌}
 use Rattle.lists.specs.Lists.{sum_to}
 use Rattle.exports_scene.specs.Many.{hit_at}
 use Rattle.exports_scene.proofs.inner.hits.Given as goal
 
 abbrev pub invariant-loop-i : goal.invariant-loop-i
-invariant-loop-i l = (l.i ≤ l.number) × (l.n ≡ sum_to (hit_at l.g l.points l.boxes l.polygons l.starts l.items l.asked) l.i) × (l.n ≤ l.i)
-
-abbrev pub decreases-loop-i : goal.decreases-loop-i
-decreases-loop-i l = l.number - l.i
+invariant-loop-i l = (l.n ≡ sum_to (hit_at l.g l.tables.points.now l.tables.boxes.now l.tables.polygons.now l.tables.starts.now l.tables.items.now l.asked) l.i) × (l.n ≤ l.i)

@@ -5,21 +5,15 @@ use Rattle.geom.proofs.Aabb.from_points.Goals as goal
 
 pub loop-i-init : goal.loop-i-init
 unfolding box_up_to
-loop-i-init c = (omega arith, c.empty-b.ensures)
+loop-i-init c = c.empty-b.ensures
 
 pub corner-requires : goal.corner-requires
 corner-requires c = omega arith
 
-pub overflow_add-i : goal.overflow_add-i
-overflow_add-i c = omega arith
-
-pub loop-i-smaller : goal.loop-i-smaller
-loop-i-smaller c = omega arith
-
 pub loop-i-preserved : goal.loop-i-preserved
 unfolding box_up_to
-loop-i-preserved c = (omega arith, simp (add-one, c.include-b.ensures, c.corner.ensures, c.loop-i.invariant.1))
+loop-i-preserved c = simp (add-one, c.include-b.ensures, c.corner.ensures, c.loop-i.invariant)
 
 pub returns : goal.returns
 unfolding from_points_of
-returns c = c.loop-i.invariant.1 ∙ ap (box_up_to _) (le_antisymm c.loop-i.invariant.0 c.loop-i-test.false)
+returns c = c.loop-i.invariant ∙ ap (box_up_to _) (le_antisymm (omega arith) c.loop-i-test.false)

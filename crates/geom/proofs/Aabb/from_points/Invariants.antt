@@ -1,10 +1,7 @@
 -- `geom::Aabb::from_points` meets its contract. Assumes nothing.
 use Rattle.geom.specs.Box.{box_up_to}
-use Rattle.std.proofs.Common.{◌≡◌, ◌-◌, ◌≤◌}
+use Rattle.std.proofs.Common.{◌≡◌}
 use Rattle.geom.proofs.Aabb.from_points.Given as goal
 
 abbrev pub invariant-loop-i : goal.invariant-loop-i
-invariant-loop-i l = (l.i ≤ l.n) × (l.b ≡ box_up_to l.points l.i)
-
-abbrev pub decreases-loop-i : goal.decreases-loop-i
-decreases-loop-i l = l.n - l.i
+invariant-loop-i l = l.b ≡ box_up_to l.points l.i

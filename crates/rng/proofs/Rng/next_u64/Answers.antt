@@ -1,6 +1,12 @@
 -- `rng::Rng::next_u64` meets its contract. Assumes nothing.
-use Rattle.rng.proofs.Ways.{u64_way}
+use Rattle.std.proofs.Common.{refl}
+use Rattle.rng.specs.Rng.{next_u64_of}
 use Rattle.rng.proofs.Rng.next_u64.Goals as goal
 
-pub returns : goal.returns
-returns c = u64_way c.args.self _ _ _ c.wrapping_add_u64-state.ensures.value c.wrapping_mul-z.ensures c.wrapping_mul-z-2.ensures
+pub returns-clause-value : goal.returns-clause-value
+unfolding next_u64_of
+returns-clause-value c = refl
+
+pub returns-clause-after : goal.returns-clause-after
+unfolding next_u64_of
+returns-clause-after c = refl

@@ -1,21 +1,21 @@
 -- `rng::Rng::range` meets its contract. Assumes nothing.
-use Rattle.std.proofs.Common.{◌≡◌, ℕ, ◌+◌, ◌-◌, ◌<◌, arith, w64, Fits, rules}
-use Rattle.rng.specs.Laws.{share_lt}
-use Rattle.rng.proofs.Ways.{empty_way, range_way}
+use Rattle.std.proofs.Common.{arith, le-leb}
+use borrow.Author.Tests.{lt-leb}
+use Rattle.rng.specs.Rng.{next_u64_of, range_of}
 use Rattle.rng.proofs.Rng.range.Goals as goal
 
--- what is added to lo is less than what hi has above it
-sum_fits : {lo hi p q : ℕ} → Fits w64 hi → lo < hi → p ≡ q → q < hi - lo → Fits w64 (lo + p)
-sum_fits f h e k = omega arith
+pub returns-then-hi-lo-clause-value : goal.returns-then-hi-lo-clause-value
+unfolding range_of
+returns-then-hi-lo-clause-value c = rw (le-leb c.args.hi c.args.lo (omega arith))
 
-pub returns-then-hi-lo : goal.returns-then-hi-lo
-returns-then-hi-lo c = empty_way _ _ _ (omega arith)
+pub returns-then-hi-lo-clause-after : goal.returns-then-hi-lo-clause-after
+unfolding range_of
+returns-then-hi-lo-clause-after c = rw (le-leb c.args.hi c.args.lo (omega arith))
 
-pub returns : goal.returns
-returns c = range_way _ _ _ _ _ c.if-hi-lo.false c.next_u64-d.ensures c.mul_high.ensures
+pub returns-clause-value : goal.returns-clause-value
+unfolding next_u64_of range_of
+returns-clause-value c = rw (lt-leb c.args.hi c.args.lo c.if-hi-lo.false, c.from.ensures, c.from-2.ensures, c.next_u64.ensures.value)
 
-pub overflow_add-value : goal.overflow_add-value
-overflow_add-value c =
-    let lt : c.args.lo < c.args.hi = c.if-hi-lo.false in
-    let p = share_lt c.next_u64-d.result.value (c.args.hi - c.args.lo) (search rules) (omega arith) in
-    sum_fits c.ranges.hi lt c.mul_high.ensures p
+pub returns-clause-after : goal.returns-clause-after
+unfolding next_u64_of range_of
+returns-clause-after c = rw (lt-leb c.args.hi c.args.lo c.if-hi-lo.false) c.next_u64.ensures.after

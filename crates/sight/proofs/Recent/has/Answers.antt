@@ -1,7 +1,7 @@
--- `Recent::has`: eight comparisons are the search of a list of eight. Assumes nothing.
-use Rattle.sight.proofs.Ways.{holds_eight}
-use borrow.Author.Rules.{rules}
+-- `Recent::has`: the search of std. Assumes nothing.
+use mathlib.Core.Path.{◌∙◌}
+use Rattle.sight.proofs.Ways.{any_holds}
 use Rattle.sight.proofs.Recent.has.Goals as goal
 
 pub returns : goal.returns
-returns c = holds_eight c.args.id c.args.self.ids (search rules)
+returns c = c.contains.ensures.value ∙ any_holds c.args.id c.args.self.ids

@@ -1,8 +1,0 @@
--- `put_bounds`: the box or zeros. Assumes nothing.
-use Rattle.answers.proofs.put_bounds.Goals as goal
-
-pub returns-in-Of : goal.returns-in-Of
-returns-in-Of c = cc
-
-pub returns-in-Refused : goal.returns-in-Refused
-returns-in-Refused c = cc

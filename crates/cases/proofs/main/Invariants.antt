@@ -1,5 +1,0 @@
--- `main`: case by case, within its budget.
-use Rattle.cases.proofs.main.Given as goal
-
-abbrev pub decreases-loop-left : goal.decreases-loop-left
-decreases-loop-left l = l.left

@@ -1,7 +1,0 @@
--- `bf_scene_width`: the answer of `scene`, as numbers. Assumes nothing.
-use mathlib.Core.Path.{ap, ◌∙◌}
-use Rattle.scene.specs.Numbers.{extent_status, extent_value}
-use Rattle.exports_scene.proofs.bf_scene_width.Goals as goal
-
-pub returns : goal.returns
-returns c = let w = rw c.site_of.ensures at c.width-a.ensures in record { value = c.extent_status.ensures ∙ ap extent_status w; width_after = c.extent_value.ensures ∙ ap extent_value w }

@@ -1,2 +1,0 @@
--- The laws behind the C interface of outlines.
-pub mod Drawing

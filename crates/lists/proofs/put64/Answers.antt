@@ -1,8 +1,0 @@
--- `lists::put64` meets its contract.
--- Assumes nothing.
-use mathlib.Core.Path.{sym}
-use lib.Seq.{set_out}
-use Rattle.lists.proofs.put64.Goals as goal
-
-pub returns-else-i-s : goal.returns-else-i-s
-returns-else-i-s c = sym (set_out _ _ _ c.if-i-s.false)

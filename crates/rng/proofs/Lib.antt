@@ -1,3 +1,0 @@
--- The laws that the proofs of `rng` cite.
-mod Halves
-mod Ways

@@ -1,0 +1,16 @@
+-- `dims`: refused, or the columns and rows. Assumes nothing.
+use Rattle.std.proofs.Common.{refl, Err}
+use Rattle.std.proofs.lemmas.Result.{err_from_is_err_and}
+use Rattle.scene.specs.Answers.{dims_of}
+use Rattle.scene.proofs.Asking.{refused, admitted}
+use Rattle.scene.proofs.Scene.dims.Goals as goal
+
+pub returns-in_err-admit : goal.returns-in_err-admit
+unfolding dims_of
+returns-in_err-admit c =
+    let p = err_from_is_err_and c.from_residual.result c.from_residual.ensures.1 in
+    rw (p.1, p.2) (refused _ _ _ Err _ c.admit.ensures c.in_err-admit.was)
+
+pub returns : goal.returns
+unfolding dims_of
+returns c = admitted _ _ _ Err _ c.admit.ensures c.in_ok-admit.was (refl)
