@@ -8,14 +8,15 @@ ghost use Rattle.grid.specs.Boxes.{box_at};
 ghost use Rattle.grid.specs.Numbers.{listed_counts};
 ghost use Rattle.build.specs.Numbers.{made_floats, made_counts};
 ghost use Rattle.scene.specs.Numbers.{extent_value, bounds_four, dims_two, shape_place, shape_four, segment_four, number_value, found_two, look_distance, look_three, cast_distance, cast_hit, cast_edge, whose_two};
+ghost use Rattle.site.specs.Tables.{tables, tables_of};
 ghost use Rattle.answers.specs.Head.{site_of};
 
 use geom::{Aabb, Vec2};
 use grid::{Dims, Grid, Listing};
 use refusal::Refusal;
-use scene::Polygon;
+use scene::{Polygon, Scene};
 use sight::Sighting;
-use site::{Ends, RayHit, Site};
+use site::{Ends, RayHit, Site, SiteTables};
 
 // ---- what goes in
 
@@ -39,6 +40,33 @@ pub fn site_of(head: &[f64; 6], counts: &[u32; 5]) -> Site
         polygons: counts[2],
         points: counts[3],
         items: counts[4],
+    }
+}
+
+// The scene of a head and the six tables, as C hands them in.
+pub fn scene_of<'a>(
+    head: &[f64; 6],
+    counts: &[u32; 5],
+    points: &'a [f64],
+    boxes: &'a [f64],
+    polygons: &'a [u32],
+    owners: &'a [u32],
+    starts: &'a [u32],
+    items: &'a [u32],
+) -> Scene<'a, 'a, 'a>
+    ensures site_is { result.site ≡ site_of head.now counts.now }
+    ensures tables_are { tables_of result.tables ≡ tables points.now boxes.now polygons.now owners.now starts.now items.now }
+{
+    Scene {
+        site: site_of(head, counts),
+        tables: SiteTables {
+            points,
+            boxes,
+            polygons,
+            owners,
+            starts,
+            items,
+        },
     }
 }
 

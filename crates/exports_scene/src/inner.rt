@@ -33,7 +33,7 @@ pub extern "C" fn bf_inner_polygon_at(
     ensures value { result ≡ 0 }
     ensures found_after { found.new ≡ whose_two (polygon_at_of (site_of head.now counts.now).grid points.now boxes.now polygons.now starts.now items.now (vec x y)) }
 {
-    let s = crate::scene_of(head, counts, points, boxes, polygons, owners, starts, items);
+    let s = answers::scene_of(head, counts, points, boxes, polygons, owners, starts, items);
     let p = Vec2 { x, y };
     answers::put_whose(found, sight::polygon_at(s.site.grid, &s.tables, p));
     0
@@ -63,7 +63,7 @@ pub extern "C" fn bf_inner_cast_ray(
     ensures t_after { t.new ≡ look_distance (Ok (cast_ray_of (site_of head.now counts.now).grid points.now boxes.now polygons.now starts.now items.now (vec ox oy) (vec dx dy) length mode)) }
     ensures found_after { found.new ≡ look_three (Ok (cast_ray_of (site_of head.now counts.now).grid points.now boxes.now polygons.now starts.now items.now (vec ox oy) (vec dx dy) length mode)) }
 {
-    let s = crate::scene_of(head, counts, points, boxes, polygons, owners, starts, items);
+    let s = answers::scene_of(head, counts, points, boxes, polygons, owners, starts, items);
     let a = Ok(sight::cast_ray(
         s.site.grid,
         &s.tables,
@@ -147,7 +147,7 @@ pub extern "C" fn bf_inner_held(
 ) -> u64
     ensures { result ≡ held_of (site_of head.now counts.now).grid points.now boxes.now polygons.now starts.now items.now asked.now }
 {
-    let s = crate::scene_of(head, counts, points, boxes, polygons, owners, starts, items);
+    let s = answers::scene_of(head, counts, points, boxes, polygons, owners, starts, items);
     held(s.site.grid, &s.tables, asked)
 }
 
@@ -166,6 +166,6 @@ pub extern "C" fn bf_inner_hits(
 ) -> u64
     ensures { result ≡ hits_of (site_of head.now counts.now).grid points.now boxes.now polygons.now starts.now items.now asked.now }
 {
-    let s = crate::scene_of(head, counts, points, boxes, polygons, owners, starts, items);
+    let s = answers::scene_of(head, counts, points, boxes, polygons, owners, starts, items);
     hits(s.site.grid, &s.tables, asked)
 }

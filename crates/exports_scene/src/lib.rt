@@ -13,7 +13,7 @@ ghost use Rattle.std.specs.Float.{nan};
 ghost use Rattle.lists.specs.Lists.{bit};
 ghost use Rattle.geom.specs.Vec.{vec};
 ghost use Rattle.grid.specs.Boxes.{box_at};
-ghost use Rattle.site.specs.Tables.{tables, tables_of};
+ghost use Rattle.site.specs.Tables.{tables};
 ghost use Rattle.site.specs.Soundness.{sound_of};
 ghost use Rattle.build.specs.Outcome.{outcome};
 ghost use Rattle.random.specs.Outcome as drawing;
@@ -29,35 +29,6 @@ ghost use Rattle.exports_scene.specs.Settings.{config_of};
 
 use geom::Vec2;
 use random::SceneConfig;
-use scene::Scene;
-use site::SiteTables;
-
-// The scene of a head and the six tables.
-fn scene_of<'a>(
-    head: &[f64; 6],
-    counts: &[u32; 5],
-    points: &'a [f64],
-    boxes: &'a [f64],
-    polygons: &'a [u32],
-    owners: &'a [u32],
-    starts: &'a [u32],
-    items: &'a [u32],
-) -> Scene<'a, 'a, 'a>
-    ensures site_is { result.site ≡ site_of head.now counts.now }
-    ensures tables_are { tables_of result.tables ≡ tables points.now boxes.now polygons.now owners.now starts.now items.now }
-{
-    Scene {
-        site: answers::site_of(head, counts),
-        tables: SiteTables {
-            points,
-            boxes,
-            polygons,
-            owners,
-            starts,
-            items,
-        },
-    }
-}
 
 // Are the tables sound? 1 or 0.
 #[unsafe(no_mangle)]
@@ -73,7 +44,7 @@ pub extern "C" fn bf_scene_is_sound(
 ) -> u32
     ensures { result ≡ bit (sound_of (site_of head.now counts.now) (tables points.now boxes.now polygons.now owners.now starts.now items.now)) }
 {
-    let s = scene_of(head, counts, points, boxes, polygons, owners, starts, items);
+    let s = answers::scene_of(head, counts, points, boxes, polygons, owners, starts, items);
     site::is_sound(s.site, s.tables) as u32
 }
 
@@ -97,12 +68,9 @@ pub extern "C" fn bf_scene_polygons_near(
     ensures { Lists (polygons_near_of (site_of head.now counts.now) (tables points.now boxes.now polygons.now owners.now starts.now items.now)
         (box_at b.now 0) marks.old epoch.old ids.old) result marks.new epoch.new ids.new tally.new }
 {
-    let a = scene_of(head, counts, points, boxes, polygons, owners, starts, items).polygons_near(
-        answers::box_of(b),
-        marks,
-        epoch,
-        ids,
-    );
+    let a = answers::scene_of(
+        head, counts, points, boxes, polygons, owners, starts, items,
+    ).polygons_near(answers::box_of(b), marks, epoch, ids);
     answers::put_counts(tally, a);
     refusal::status(a)
 }
@@ -151,9 +119,9 @@ pub extern "C" fn bf_scene_items_at_number(
     ensures value { result ≡ status_of (items_at_number_of (site_of head.now counts.now) (tables points.now boxes.now polygons.now owners.now starts.now items.now) (vec x y)) }
     ensures number_after { number.new ≡ number_value (items_at_number_of (site_of head.now counts.now) (tables points.now boxes.now polygons.now owners.now starts.now items.now) (vec x y)) }
 {
-    let a = scene_of(head, counts, points, boxes, polygons, owners, starts, items).items_at_number(
-        Vec2 { x, y },
-    );
+    let a = answers::scene_of(
+        head, counts, points, boxes, polygons, owners, starts, items,
+    ).items_at_number(Vec2 { x, y });
     *number = answers::count_value(a);
     refusal::status(a)
 }
@@ -176,10 +144,9 @@ pub extern "C" fn bf_scene_item_at(
     ensures { result ≡ get_or (items_at_of (site_of head.now counts.now) (tables points.now boxes.now polygons.now owners.now starts.now items.now) (vec x y)) i 0 }
 {
     lists::at(
-        scene_of(head, counts, points, boxes, polygons, owners, starts, items).items_at(Vec2 {
-            x,
-            y,
-        }),
+        answers::scene_of(head, counts, points, boxes, polygons, owners, starts, items).items_at(
+            Vec2 { x, y },
+        ),
         i,
     )
 }
@@ -202,10 +169,9 @@ pub extern "C" fn bf_scene_polygon_at(
     ensures value { result ≡ status_of (polygon_at_of (site_of head.now counts.now) (tables points.now boxes.now polygons.now owners.now starts.now items.now) (vec x y)) }
     ensures found_after { found.new ≡ found_two (polygon_at_of (site_of head.now counts.now) (tables points.now boxes.now polygons.now owners.now starts.now items.now) (vec x y)) }
 {
-    let a = scene_of(head, counts, points, boxes, polygons, owners, starts, items).polygon_at(Vec2 {
-        x,
-        y,
-    });
+    let a = answers::scene_of(
+        head, counts, points, boxes, polygons, owners, starts, items,
+    ).polygon_at(Vec2 { x, y });
     answers::put_found(found, a);
     refusal::status(a)
 }
@@ -235,12 +201,9 @@ pub extern "C" fn bf_scene_cast_ray(
     ensures t_after { t.new ≡ look_distance (cast_ray_of (site_of head.now counts.now) (tables points.now boxes.now polygons.now owners.now starts.now items.now) (vec ox oy) (vec dx dy) length mode) }
     ensures found_after { found.new ≡ look_three (cast_ray_of (site_of head.now counts.now) (tables points.now boxes.now polygons.now owners.now starts.now items.now) (vec ox oy) (vec dx dy) length mode) }
 {
-    let a = scene_of(head, counts, points, boxes, polygons, owners, starts, items).cast_ray(
-        Vec2 { x: ox, y: oy },
-        Vec2 { x: dx, y: dy },
-        length,
-        mode,
-    );
+    let a = answers::scene_of(
+        head, counts, points, boxes, polygons, owners, starts, items,
+    ).cast_ray(Vec2 { x: ox, y: oy }, Vec2 { x: dx, y: dy }, length, mode);
     *t = answers::look_distance(a);
     answers::put_look(found, a);
     refusal::status(a)
@@ -263,7 +226,9 @@ pub extern "C" fn bf_scene_edge(
     ensures value { result ≡ status_of (edge_of (site_of head.now counts.now) (tables points.now boxes.now polygons.now owners.now starts.now items.now) edge) }
     ensures ends_after { ends.new ≡ segment_four (edge_of (site_of head.now counts.now) (tables points.now boxes.now polygons.now owners.now starts.now items.now) edge) }
 {
-    let a = scene_of(head, counts, points, boxes, polygons, owners, starts, items).edge(edge);
+    let a = answers::scene_of(head, counts, points, boxes, polygons, owners, starts, items).edge(
+        edge,
+    );
     answers::put_ends(ends, a);
     refusal::status(a)
 }
@@ -285,7 +250,9 @@ pub extern "C" fn bf_scene_edge_end(
     ensures value { result ≡ status_of (edge_end_of (site_of head.now counts.now) (tables points.now boxes.now polygons.now owners.now starts.now items.now) edge) }
     ensures end_after { end.new ≡ number_value (edge_end_of (site_of head.now counts.now) (tables points.now boxes.now polygons.now owners.now starts.now items.now) edge) }
 {
-    let a = scene_of(head, counts, points, boxes, polygons, owners, starts, items).edge_end(edge);
+    let a = answers::scene_of(
+        head, counts, points, boxes, polygons, owners, starts, items,
+    ).edge_end(edge);
     *end = answers::index_value(a);
     refusal::status(a)
 }
@@ -307,7 +274,9 @@ pub extern "C" fn bf_scene_edge_owner(
     ensures value { result ≡ status_of (edge_owner_of (site_of head.now counts.now) (tables points.now boxes.now polygons.now owners.now starts.now items.now) edge) }
     ensures owner_after { owner.new ≡ number_value (edge_owner_of (site_of head.now counts.now) (tables points.now boxes.now polygons.now owners.now starts.now items.now) edge) }
 {
-    let a = scene_of(head, counts, points, boxes, polygons, owners, starts, items).edge_owner(edge);
+    let a = answers::scene_of(
+        head, counts, points, boxes, polygons, owners, starts, items,
+    ).edge_owner(edge);
     *owner = answers::index_value(a);
     refusal::status(a)
 }
@@ -331,7 +300,9 @@ pub extern "C" fn bf_scene_polygon(
     ensures place_after { place.new ≡ shape_place (polygon_of (site_of head.now counts.now) (tables points.now boxes.now polygons.now owners.now starts.now items.now) id) }
     ensures b_after { b.new ≡ shape_four (polygon_of (site_of head.now counts.now) (tables points.now boxes.now polygons.now owners.now starts.now items.now) id) }
 {
-    let a = scene_of(head, counts, points, boxes, polygons, owners, starts, items).polygon(id);
+    let a = answers::scene_of(head, counts, points, boxes, polygons, owners, starts, items).polygon(
+        id,
+    );
     answers::put_place(place, a);
     answers::put_box(b, a);
     refusal::status(a)
@@ -354,7 +325,7 @@ pub extern "C" fn bf_scene_polygon_vertices_number(
     ensures value { result ≡ status_of (polygon_vertices_number_of (site_of head.now counts.now) (tables points.now boxes.now polygons.now owners.now starts.now items.now) id) }
     ensures number_after { number.new ≡ number_value (polygon_vertices_number_of (site_of head.now counts.now) (tables points.now boxes.now polygons.now owners.now starts.now items.now) id) }
 {
-    let a = scene_of(
+    let a = answers::scene_of(
         head, counts, points, boxes, polygons, owners, starts, items,
     ).polygon_vertices_number(id);
     *number = answers::count_value(a);
@@ -378,7 +349,9 @@ pub extern "C" fn bf_scene_polygon_vertex(
     ensures { result ≡ get_or (polygon_vertices_of (site_of head.now counts.now) (tables points.now boxes.now polygons.now owners.now starts.now items.now) id) i nan }
 {
     lists::at(
-        scene_of(head, counts, points, boxes, polygons, owners, starts, items).polygon_vertices(id),
+        answers::scene_of(
+            head, counts, points, boxes, polygons, owners, starts, items,
+        ).polygon_vertices(id),
         i,
     )
 }
@@ -399,7 +372,9 @@ pub extern "C" fn bf_scene_bounds(
     ensures value { result ≡ status_of (bounds_of (site_of head.now counts.now) (tables points.now boxes.now polygons.now owners.now starts.now items.now)) }
     ensures b_after { b.new ≡ bounds_four (bounds_of (site_of head.now counts.now) (tables points.now boxes.now polygons.now owners.now starts.now items.now)) }
 {
-    let a = scene_of(head, counts, points, boxes, polygons, owners, starts, items).bounds();
+    let a = answers::scene_of(
+        head, counts, points, boxes, polygons, owners, starts, items,
+    ).bounds();
     answers::put_bounds(b, a);
     refusal::status(a)
 }
@@ -420,7 +395,7 @@ pub extern "C" fn bf_scene_width(
     ensures value { result ≡ status_of (width_of (site_of head.now counts.now) (tables points.now boxes.now polygons.now owners.now starts.now items.now)) }
     ensures width_after { width.new ≡ extent_value (width_of (site_of head.now counts.now) (tables points.now boxes.now polygons.now owners.now starts.now items.now)) }
 {
-    let a = scene_of(head, counts, points, boxes, polygons, owners, starts, items).width();
+    let a = answers::scene_of(head, counts, points, boxes, polygons, owners, starts, items).width();
     *width = answers::extent_value(a);
     refusal::status(a)
 }
@@ -441,7 +416,9 @@ pub extern "C" fn bf_scene_height(
     ensures value { result ≡ status_of (height_of (site_of head.now counts.now) (tables points.now boxes.now polygons.now owners.now starts.now items.now)) }
     ensures height_after { height.new ≡ extent_value (height_of (site_of head.now counts.now) (tables points.now boxes.now polygons.now owners.now starts.now items.now)) }
 {
-    let a = scene_of(head, counts, points, boxes, polygons, owners, starts, items).height();
+    let a = answers::scene_of(
+        head, counts, points, boxes, polygons, owners, starts, items,
+    ).height();
     *height = answers::extent_value(a);
     refusal::status(a)
 }
@@ -462,7 +439,7 @@ pub extern "C" fn bf_scene_dims(
     ensures value { result ≡ status_of (dims_of (site_of head.now counts.now) (tables points.now boxes.now polygons.now owners.now starts.now items.now)) }
     ensures dims_after { dims.new ≡ dims_two (dims_of (site_of head.now counts.now) (tables points.now boxes.now polygons.now owners.now starts.now items.now)) }
 {
-    let a = scene_of(head, counts, points, boxes, polygons, owners, starts, items).dims();
+    let a = answers::scene_of(head, counts, points, boxes, polygons, owners, starts, items).dims();
     answers::put_dims(dims, a);
     refusal::status(a)
 }
@@ -483,7 +460,7 @@ pub extern "C" fn bf_scene_new_stamps(
 ) -> u32
     ensures { Anew (new_stamps_of (site_of head.now counts.now) (tables points.now boxes.now polygons.now owners.now starts.now items.now) marks.old epoch.old) result marks.new epoch.new }
 {
-    refusal::status(scene_of(
+    refusal::status(answers::scene_of(
         head, counts, points, boxes, polygons, owners, starts, items,
     ).new_stamps(marks, epoch))
 }

@@ -6,7 +6,7 @@
 mod numbers;
 
 ghost use Rattle.std.specs.Prelude.{◌≡◌};
-ghost use Rattle.site.specs.Tables.{tables, tables_of};
+ghost use Rattle.site.specs.Tables.{tables};
 ghost use Rattle.site.specs.Soundness.{Sound};
 ghost use Rattle.answers.specs.Head.{site_of};
 ghost use Rattle.cone.specs.Outline.{outline_outcome};
@@ -15,35 +15,6 @@ ghost use Rattle.visibility.specs.Beside.{area_of};
 ghost use Rattle.visibility.specs.Outcome.{outcome};
 ghost use Rattle.exports_view.specs.Numbers.{cone_of, rooms_of, Draws, Outlines};
 
-use scene::Scene;
-use site::SiteTables;
-
-// The scene of a head and the six tables.
-fn scene_of<'a>(
-    head: &[f64; 6],
-    counts: &[u32; 5],
-    points: &'a [f64],
-    boxes: &'a [f64],
-    polygons: &'a [u32],
-    owners: &'a [u32],
-    starts: &'a [u32],
-    items: &'a [u32],
-) -> Scene<'a, 'a, 'a>
-    ensures site_is { result.site ≡ site_of head.now counts.now }
-    ensures tables_are { tables_of result.tables ≡ tables points.now boxes.now polygons.now owners.now starts.now items.now }
-{
-    Scene {
-        site: answers::site_of(head, counts),
-        tables: SiteTables {
-            points,
-            boxes,
-            polygons,
-            owners,
-            starts,
-            items,
-        },
-    }
-}
 
 // The outline from a post.
 #[unsafe(no_mangle)]
@@ -72,7 +43,7 @@ pub extern "C" fn bf_compute_visibility(
         (lent marks.old epoch.old floats.old words.old outline.old visible.old)) result (lent marks.new epoch.new floats.new words.new outline.new visible.new) answer.new }
 {
     let a = visibility::compute_visibility(
-        scene_of(head, counts, points, boxes, polygons, owners, starts, items),
+        answers::scene_of(head, counts, points, boxes, polygons, owners, starts, items),
         numbers::cone_of(cone),
         tolerance,
         mode,
@@ -115,7 +86,7 @@ pub extern "C" fn bf_inner_compute_visibility(
     ensures { Draws (seen_from_of (site_of head.now counts.now) (tables points.now boxes.now polygons.now owners.now starts.now items.now) (cone_of cone.now) tolerance mode (rooms_of entries.now)
         (lent marks.old epoch.old floats.old words.old outline.old visible.old)) result (lent marks.new epoch.new floats.new words.new outline.new visible.new) answer.new }
 {
-    let s = scene_of(head, counts, points, boxes, polygons, owners, starts, items);
+    let s = answers::scene_of(head, counts, points, boxes, polygons, owners, starts, items);
     let a = view::seen_from(
         s.site,
         &s.tables,
