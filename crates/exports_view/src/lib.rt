@@ -15,7 +15,6 @@ ghost use Rattle.visibility.specs.Beside.{area_of};
 ghost use Rattle.visibility.specs.Outcome.{outcome};
 ghost use Rattle.exports_view.specs.Numbers.{cone_of, rooms_of, Draws, Outlines};
 
-
 // The outline from a post.
 #[unsafe(no_mangle)]
 pub extern "C" fn bf_compute_visibility(
