@@ -4,7 +4,7 @@ use mathlib.Core.Path.{◌≡◌, refl, sym, ap, ◌∙◌}
 use mathlib.Core.Logic.{⊎_elim}
 use mathlib.Core.Bool.{Bool, true, false}
 use mathlib.Core.List.{List, [], ◌∷◌}
-use Prim.Native.Nat.{ℕ, ◌+◌, ◌≤◌, ◌<◌, max}
+use Prim.Native.Nat.{ℕ, ◌+◌, ◌≤◌, ◌<◌, max, min}
 use native.Mathlib.Numerals.{add-one}
 use native.Mathlib.Omega.{arith}
 use lib.Dec.{eqb}
@@ -74,6 +74,16 @@ module _ (mode : ℕ) (b : Best) (e : ℕ) where
 
     pub level_not : (h : RayHit) → b.hit ≡ Some h → h.edge ≤ e → b ≡ level_of mode b e
     level_not h is l = rw (ne_eqb mode 0 z, is, le-ltb e h.edge l)
+
+    -- the best hit, with another edge
+    abbrev with_hit : Option RayHit → Best
+    with_hit x = record { t = b.t; hit = x }
+
+    pub level_least : (h : RayHit) → b.hit ≡ Some h → record { t = b.t; hit = hit_at h.t (min e h.edge) } ≡ level_of mode b e
+    level_least h is = ⊎_elim
+        (λ l. let m : min e h.edge ≡ e = omega arith in rw m (level_lower h is l))
+        (λ l. let m : min e h.edge ≡ h.edge = omega arith in rw m (ap (λ (x : Option RayHit). with_hit x) (sym is) ∙ level_not h is l))
+        (lt_or_le e h.edge)
 
     pub level_miss : b.hit ≡ None → b ≡ level_of mode b e
     level_miss is = rw (ne_eqb mode 0 z, is)

@@ -1,6 +1,6 @@
 -- A cast ray, as the Rust runs it (`Scene::cast_ray`, scene.rs, lines 302 to 349): the walk of `walk` with a visitor that tests the polygons of each cell and
 -- carries the nearest hit and the ring of the eight ids tested last. Document 01, "Site and grid": "the ring of 8 recent ids is kept. It reports cells entered".
--- The Rust tells a miss by the edge number u32::MAX; here a hit is a `Cast`. Document 02, Q-3, has a mode decide which of several edges at exactly the same distance is
+-- The Rust tells a miss by the edge number u32::MAX; here a miss is `None`. Document 02, Q-3, has a mode decide which of several edges at exactly the same distance is
 -- answered. Each layer takes the rule by which an edge counts, so that the Rust's own rule (specs/Rust.antt) goes through the same layers. Definitions only.
 use Rattle.std.specs.Prelude.{ℕ, zero, suc, ◌+◌, ◌%◌, min, cond, length, set, replicate, eqb, ltb, Float, None, Option, Some}
 use mathlib.Core.List.{List, foldl}

@@ -132,15 +132,16 @@ fn edge_number(first: u32, i: usize) -> u32
 }
 
 // The edge e is met at exactly the distance of the nearest hit: in mode 0 the edge found first stays, in any other the lower number, once there is a hit.
+// By a choice of two numbers: where the mode was tested first, the compiler made a loop of its own for mode 0, which divides twice for edges that once will do for.
 fn level(best: Best, e: u32, mode: u32) -> Best
     ensures { result ≡ level_of mode best e }
 {
-    if mode == 0 {
-        return best;
-    }
     match best.hit {
-        Some(hit) if e < hit.edge => Best {
-            hit: Some(RayHit { edge: e, ..hit }),
+        Some(hit) if mode != 0 => Best {
+            hit: Some(RayHit {
+                edge: e.min(hit.edge),
+                ..hit
+            }),
             ..best
         },
         _ => best,
