@@ -2,7 +2,7 @@
 // on and hands back what was drawn; specs/Rng.antt says which.
 #![tactic(auto)]
 
-ghost use Rattle.std.specs.Prelude.{◌≡◌};
+ghost use Rattle.std.specs.Prelude.{◌≡◌, ◌*◌, ◌/◌, ◌^◌};
 ghost use Rattle.rng.specs.Rng.{new_of, next_u64_of, next_f64_of, range_of};
 
 // The generator's state, one number.
@@ -45,6 +45,13 @@ impl Rng {
         if hi <= lo {
             return lo;
         }
-        lo + ((u128::from(self.next_u64()) * u128::from(hi - lo)) >> 64) as u64
+        lo + mul_high(self.next_u64(), hi - lo)
     }
+}
+
+// The high 64 bits of a * b.
+fn mul_high(a: u64, b: u64) -> u64
+    ensures { result ≡ a * b / 2 ^ 64 }
+{
+    ((u128::from(a) * u128::from(b)) >> 64) as u64
 }

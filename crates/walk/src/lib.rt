@@ -176,6 +176,7 @@ fn moved(i: u32, count: u32, turn: Turn) -> Option<u32>
     match turn {
         Turn::Up if i as u64 + 1 < count as u64 => Some(i + 1),
         Turn::Down if 0 < i => Some(i - 1),
+        Turn::Stay => None,
         _ => None,
     }
 }

@@ -19,6 +19,6 @@ pub returns-in_default-2 : goal.returns-in_default-2
 unfolding moved_to
 returns-in_default-2 c = rw (c.in-Down.is, le-ltb _ _ c.if-i-gt0.false)
 
-pub returns-in_default-3 : goal.returns-in_default-3
+pub returns-in-Stay : goal.returns-in-Stay
 unfolding moved_to
-returns-in_default-3 c = rw c.in_default.is
+returns-in-Stay c = rw c.in-Stay.is

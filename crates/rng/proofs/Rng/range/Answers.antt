@@ -14,7 +14,7 @@ returns-then-hi-lo-clause-after c = rw (le-leb c.args.hi c.args.lo (omega arith)
 
 pub returns-clause-value : goal.returns-clause-value
 unfolding next_u64_of range_of
-returns-clause-value c = rw (lt-leb c.args.hi c.args.lo c.if-hi-lo.false, c.from.ensures, c.from-2.ensures, c.next_u64.ensures.value)
+returns-clause-value c = rw (lt-leb c.args.hi c.args.lo c.if-hi-lo.false, c.mul_high.ensures, c.next_u64.ensures.value)
 
 pub returns-clause-after : goal.returns-clause-after
 unfolding next_u64_of range_of
