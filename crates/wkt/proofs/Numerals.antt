@@ -8,7 +8,7 @@ use Rattle.wkt.specs.Number.{digits, digits_of, decimal, unsigned, number}
 
 -- ---- a byte at a cursor, by what it counts as
 module _ (g : ℕ → ℕ) (s : List ℕ) (at b : ℕ) where
-  spells_end : length s ≤ at → false ≡ spells g b (drop at s)
+  pub spells_end : length s ≤ at → false ≡ spells g b (drop at s)
   spells_end h = ap (spells g b) (sym (drop_of_length-le s h))
 
   -- where a byte stands, the cursor is inside the text

@@ -32,44 +32,44 @@ const MAX_POINTS: usize = 512;
 
 // What is read at a cursor, with the cursor behind it. Where a text is not as laid out there is none.
 #[derive(Clone, Copy)]
-struct Run {
-    value: u64,
-    next: usize,
+pub struct Run {
+    pub value: u64,
+    pub next: usize,
 }
 
 #[derive(Clone, Copy)]
-struct Number {
-    value: f64,
-    next: usize,
+pub struct Number {
+    pub value: f64,
+    pub next: usize,
 }
 
 #[derive(Clone, Copy)]
-struct Pair {
-    x: f64,
-    y: f64,
-    next: usize,
+pub struct Pair {
+    pub x: f64,
+    pub y: f64,
+    pub next: usize,
 }
 
 // How many points a ring has, the closing one not counted.
 #[derive(Clone, Copy)]
-struct Ring {
-    points: usize,
-    next: usize,
+pub struct Ring {
+    pub points: usize,
+    pub next: usize,
 }
 
 #[derive(Clone, Copy)]
-struct Post {
-    x: f64,
-    y: f64,
-    range: f64,
-    next: usize,
+pub struct Post {
+    pub x: f64,
+    pub y: f64,
+    pub range: f64,
+    pub next: usize,
 }
 
 // How many polygons and points the lines have.
 #[derive(Clone, Copy)]
-struct Lines {
-    polygons: usize,
-    points: usize,
+pub struct Lines {
+    pub polygons: usize,
+    pub points: usize,
 }
 
 // What a text is answered with: the post, its range and the counts.
