@@ -26,7 +26,7 @@ begun n = stamps (replicate n 0) 0
 abbrev pub lent_with : Stamps → List Float → List ℕ → List Float → List ℕ → Lent
 lent_with s floats words outline visible = lent s.marks s.epoch floats words outline visible
 
--- a call that is lent stamps: `scene::new_stamps`, `scene::polygons_near` and `visibility::compute_visibility`; and under these three `grid::new_stamps`,
+-- a call that is lent stamps: `Scene::new_stamps`, `Scene::polygons_near` and `visibility::compute_visibility`; and under these three `grid::new_stamps`,
 -- `grid::box_query` and `view::seen_from`. The grid's single steps (`next_epoch`, `mark`) are parts of a query and no calls of it
 pub data Call : Type 0 where
   renews : (site : Site) (t : Tables) → Call

@@ -11,7 +11,7 @@ use Rattle.near.specs.Outcome.{Outcome, found_near, entries_held, plain_of}
 use Rattle.demand.specs.Calls.{Stamps}
 use Rattle.grid.specs.Query.{counted}
 
--- `scene::polygons_near`, by the grid's tables and the stamps; and `near::polygons_near_plain`, by the points and polygons alone
+-- `Scene::polygons_near`, by the grid's tables and the stamps; and `near::polygons_near_plain`, by the points and polygons alone
 pub data Engine : Type 0 where
   tables : Engine
   plain : Engine

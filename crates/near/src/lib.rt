@@ -187,7 +187,7 @@ fn box_query(
 
 // ---- the call
 
-// The polygons near a box, as `scene::polygons_near` lists them, without its tables and stamps: a head with its points and polygons is enough.
+// The polygons near a box, as `Scene::polygons_near` lists them, without its tables and stamps: a head with its points and polygons is enough.
 pub fn polygons_near_plain(
     site: Site,
     points: &[f64],
